@@ -1,0 +1,4 @@
+pub mod Squares
+mod Checks
+mod Counts
+pub mod Marks
