@@ -23,7 +23,6 @@ pairs-more mark m b = ap (countPairs mark m) (add-one b)
 -- the one pair lo hi had the mark m, and has it no more
 module _ (old new : ℕ → ℕ → ℕ) (m lo hi : ℕ) (order : lo < hi) (had : old lo hi ≡ m) (lost : new lo hi ≡ m → ⊥)
     (rest : (a b : ℕ) → a < b → ((a ≡ lo) × (b ≡ hi) → ⊥) → new a b ≡ old a b) where
-
   row-other : (b k : ℕ) → k ≤ b → (b ≡ hi → ⊥) → countRow new m b k ≡ countRow old m b k
   row-other b zero h d = refl
   row-other b (suc k) h d =
@@ -38,15 +37,15 @@ module _ (old new : ℕ → ℕ → ℕ) (m lo hi : ℕ) (order : lo < hi) (had 
   row-after (suc k) h l =
       ⊎-elim
       (λ (e : k ≡ lo).
-          let here : countRow old m hi (k + 1) ≡ countRow old m hi k + 1 = row-hit old m hi k (ap (λ a. old a hi) e ∙ had) in
-          let gone : countRow new m hi (k + 1) ≡ countRow new m hi k = row-miss new m hi k (λ q. lost (sym (ap (λ a. new a hi) e) ∙ q)) in
-          let same : countRow new m hi k ≡ countRow old m hi k = row-before k (omega arith) in
-          let one = add-one k in
-          sym (ap (λ j. countRow new m hi j + 1) one) ∙ (let z : countRow new m hi (k + 1) + 1 ≡ countRow old m hi (k + 1) = omega arith in z) ∙ ap (countRow old m hi) one)
+      let here : countRow old m hi (k + 1) ≡ countRow old m hi k + 1 = row-hit old m hi k (ap (λ a. old a hi) e ∙ had) in
+      let gone : countRow new m hi (k + 1) ≡ countRow new m hi k = row-miss new m hi k (λ q. lost (sym (ap (λ a. new a hi) e) ∙ q)) in
+      let same : countRow new m hi k ≡ countRow old m hi k = row-before k (omega arith) in
+      let one = add-one k in
+      sym (ap (λ j. countRow new m hi j + 1) one) ∙ (let z : countRow new m hi (k + 1) + 1 ≡ countRow old m hi (k + 1) = omega arith in z) ∙ ap (countRow old m hi) one)
       (λ (d : k ≡ lo → ⊥).
-          let q : countRow new m hi k + 1 ≡ countRow old m hi k = row-after k (omega arith) (omega arith) in
-          let p : _≡_ {A = ℕ} (cond (eqb (new k hi) m) 1 0) (cond (eqb (old k hi) m) 1 0) = ap (λ x. cond (eqb x m) 1 0) (rest k hi (omega arith) (λ p. d (p .0))) in
-          omega arith)
+      let q : countRow new m hi k + 1 ≡ countRow old m hi k = row-after k (omega arith) (omega arith) in
+      let p : _≡_ {A = ℕ} (cond (eqb (new k hi) m) 1 0) (cond (eqb (old k hi) m) 1 0) = ap (λ x. cond (eqb x m) 1 0) (rest k hi (omega arith) (λ p. d (p .0))) in
+      omega arith)
       (cases-eq k lo)
 
   pairs-before : (n : ℕ) → n ≤ hi → countPairs new m n ≡ countPairs old m n
@@ -58,11 +57,11 @@ module _ (old new : ℕ → ℕ → ℕ) (m lo hi : ℕ) (order : lo < hi) (had 
   one-fewer (suc b) h =
       ⊎-elim
       (λ (e : b ≡ hi).
-          let s : countPairs new m b ≡ countPairs old m b = pairs-before b (omega arith) in
-          let r : countRow new m b b + 1 ≡ countRow old m b b = ap (λ j. countRow new m j j + 1) e ∙ row-after hi order (omega arith) ∙ sym (ap (λ j. countRow old m j j) e) in
-          omega arith)
+      let s : countPairs new m b ≡ countPairs old m b = pairs-before b (omega arith) in
+      let r : countRow new m b b + 1 ≡ countRow old m b b = ap (λ j. countRow new m j j + 1) e ∙ row-after hi order (omega arith) ∙ sym (ap (λ j. countRow old m j j) e) in
+      omega arith)
       (λ (d : b ≡ hi → ⊥).
-          let s : countPairs new m b + 1 ≡ countPairs old m b = one-fewer b (omega arith) in
-          let r : countRow new m b b ≡ countRow old m b b = row-other b b (omega arith) d in
-          omega arith)
+      let s : countPairs new m b + 1 ≡ countPairs old m b = one-fewer b (omega arith) in
+      let r : countRow new m b b ≡ countRow old m b b = row-other b b (omega arith) d in
+      omega arith)
       (cases-eq b hi)

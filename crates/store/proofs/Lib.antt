@@ -1,4 +1,4 @@
 pub mod Squares
-mod Checks
+pub mod Checks
 mod Counts
 pub mod Marks

@@ -29,11 +29,11 @@ pub wiped-mark : (old : List ℕ) (n u v : ℕ) → n ≤ 256 → matrixMark (wi
 wiped-mark old n u v most =
     ⊎-elim (mark-same (wiped old) n u v)
     (λ d. ⊎-elim
-        (λ (h : max u v < n).
-            mark-in (wiped old) n u v d h
-            ∙ ap (λ s. pairMark s (bit (wiped old) (max u v) (min u v))) (wiped-bit old (min u v) (max u v) (omega arith) (omega arith)))
-        (mark-outside (wiped old) n u v)
-        (cases-lt (max u v) n))
+    (λ (h : max u v < n).
+    mark-in (wiped old) n u v d h
+    ∙ ap (λ s. pairMark s (bit (wiped old) (max u v) (min u v))) (wiped-bit old (min u v) (max u v) (omega arith) (omega arith)))
+    (mark-outside (wiped old) n u v)
+    (cases-lt (max u v) n))
     (cases-eq u v)
 
 pub wiped-net : (old : List ℕ) (n : ℕ) → 8192 ≤ length old → 1 ≤ n → n ≤ 256 → matrixNet (wiped old) n ≡ emptyNet n
@@ -50,15 +50,15 @@ couple-is u v a b e =
     ]
 
 couple-not : (u v a b : ℕ) → couple u v a b ≡ false → ((a ≡ u) × (b ≡ v) → ⊥) × ((a ≡ v) × (b ≡ u) → ⊥)
-couple-not u v a b e =
-    ( (λ p. both-ways (couple u v a b) e (or-left (eqb a u && eqb b v) (eqb b u && eqb a v) (and-from (eqb a u) (eqb b v) (eq-eqb a u (p .0)) (eq-eqb b v (p .1)))))
-    , (λ p. both-ways (couple u v a b) e (or-right (eqb a u && eqb b v) (eqb b u && eqb a v) (and-from (eqb b u) (eqb a v) (eq-eqb b u (p .1)) (eq-eqb a v (p .0))))) )
+couple-not u v a b e = (
+  (λ p. both-ways (couple u v a b) e (or-left (eqb a u && eqb b v) (eqb b u && eqb a v) (and-from (eqb a u) (eqb b v) (eq-eqb a u (p .0)) (eq-eqb b v (p .1))))),
+  (λ p. both-ways (couple u v a b) e (or-right (eqb a u && eqb b v) (eqb b u && eqb a v) (and-from (eqb b u) (eqb a v) (eq-eqb b u (p .1)) (eq-eqb a v (p .0))))),
+)
 
 -- the two bits of the pair u v are written, and no other
 module _ (old new : List ℕ) (n u v stands tied : ℕ) (hu : u < n) (hv : v < n) (few : n ≤ 256) (d : u ≡ v → ⊥)
     (above : bit new (min u v) (max u v) ≡ stands) (below : bit new (max u v) (min u v) ≡ tied)
     (rest : (x y : ℕ) → y < 256 → ((x ≡ u) × (y ≡ v) → ⊥) → ((x ≡ v) × (y ≡ u) → ⊥) → bit new x y ≡ bit old x y) where
-
   mark-here : (a b : ℕ) → ((a ≡ u) × (b ≡ v)) ⊎ ((a ≡ v) × (b ≡ u)) → matrixMark new n a b ≡ pairMark stands tied
   mark-here a b w =
       let lo : min a b ≡ min u v = ⊎-elim (λ p. omega (arith, p .0, p .1)) (λ p. omega (arith, p .0, p .1)) w in
@@ -72,20 +72,23 @@ module _ (old new : List ℕ) (n u v stands tied : ℕ) (hu : u < n) (hv : v < n
   mark-rest a b p q =
       ⊎-elim (λ e. mark-same new n a b e ∙ sym (mark-same old n a b e))
       (λ (ne : a ≡ b → ⊥). ⊎-elim
-          (λ (h : max a b < n).
-              let one = rest (min a b) (max a b) (omega arith) (other (min a b) (max a b) (least a b)) (other′ (min a b) (max a b) (least a b)) in
-              let two = rest (max a b) (min a b) (omega arith) (other (max a b) (min a b) (most a b)) (other′ (max a b) (min a b) (most a b)) in
-              mark-in new n a b ne h ∙ ap₂ pairMark one two ∙ sym (mark-in old n a b ne h))
-          (λ (h : n ≤ max a b). mark-outside new n a b h ∙ sym (mark-outside old n a b h))
-          (cases-lt (max a b) n))
+      (λ (h : max a b < n).
+      let one = rest (min a b) (max a b) (omega arith) (other (min a b) (max a b) (least a b)) (other′ (min a b) (max a b) (least a b)) in
+      let two = rest (max a b) (min a b) (omega arith) (other (max a b) (min a b) (most a b)) (other′ (max a b) (min a b) (most a b)) in
+      mark-in new n a b ne h ∙ ap₂ pairMark one two ∙ sym (mark-in old n a b ne h))
+      (λ (h : n ≤ max a b). mark-outside new n a b h ∙ sym (mark-outside old n a b h))
+      (cases-lt (max a b) n))
       (cases-eq a b)
     where
       least : (a b : ℕ) → ((min a b ≡ a) × (max a b ≡ b)) ⊎ ((min a b ≡ b) × (max a b ≡ a))
       least a b = ⊎-elim (λ (h : a < b). inl (omega arith, omega arith)) (λ (h : b ≤ a). inr (omega arith, omega arith)) (cases-lt a b)
+
       most : (a b : ℕ) → ((max a b ≡ a) × (min a b ≡ b)) ⊎ ((max a b ≡ b) × (min a b ≡ a))
       most a b = ⊎-elim (λ (h : a < b). inr (omega arith, omega arith)) (λ (h : b ≤ a). inl (omega arith, omega arith)) (cases-lt a b)
+
       other : (x y : ℕ) → ((x ≡ a) × (y ≡ b)) ⊎ ((x ≡ b) × (y ≡ a)) → (x ≡ u) × (y ≡ v) → ⊥
       other x y w r = ⊎-elim (λ s. p (sym (s .0) ∙ r .0, sym (s .1) ∙ r .1)) (λ s. q (sym (s .1) ∙ r .1, sym (s .0) ∙ r .0)) w
+
       other′ : (x y : ℕ) → ((x ≡ a) × (y ≡ b)) ⊎ ((x ≡ b) × (y ≡ a)) → (x ≡ v) × (y ≡ u) → ⊥
       other′ x y w r = ⊎-elim (λ s. q (sym (s .0) ∙ r .0, sym (s .1) ∙ r .1)) (λ s. p (sym (s .1) ∙ r .1, sym (s .0) ∙ r .0)) w
 
@@ -117,16 +120,17 @@ filled-count mark n u v alike d hu hv free =
     let hi = max u v in
     let here : couple u v lo hi ≡ true = is-couple u v lo hi (⊎-elim (λ (h : u < v). inl (omega arith, omega arith)) (λ (h : v ≤ u). inr (omega arith, omega arith)) (cases-lt u v)) in
     let had : mark lo hi ≡ 0 =
-            ⊎-elim
-            (λ (h : u < v). let l : lo ≡ u = omega arith in let k : hi ≡ v = omega arith in ap₂ mark l k ∙ free)
-            (λ (h : v ≤ u). let l : lo ≡ v = omega arith in let k : hi ≡ u = omega arith in ap₂ mark l k ∙ alike v u ∙ free)
-            (cases-lt u v) in
+    ⊎-elim
+    (λ (h : u < v). let l : lo ≡ u = omega arith in let k : hi ≡ v = omega arith in ap₂ mark l k ∙ free)
+    (λ (h : v ≤ u). let l : lo ≡ v = omega arith in let k : hi ≡ u = omega arith in ap₂ mark l k ∙ alike v u ∙ free)
+    (cases-lt u v) in
     let lost : new lo hi ≡ 0 → ⊥ = λ e. omega (arith, sym (cond-true (couple u v lo hi) 2 (mark lo hi) here) ∙ e) in
     one-fewer mark new 0 lo hi (omega arith) had lost (λ a b h p. cond-false (couple u v a b) 2 (mark a b) (not-couple u v a b h p)) n (omega arith)
   where
     is-couple : (u v a b : ℕ) → ((a ≡ u) × (b ≡ v)) ⊎ ((a ≡ v) × (b ≡ u)) → couple u v a b ≡ true
     is-couple u v a b (inl p) = or-left (eqb a u && eqb b v) (eqb b u && eqb a v) (and-from (eqb a u) (eqb b v) (eq-eqb a u (p .0)) (eq-eqb b v (p .1)))
     is-couple u v a b (inr p) = or-right (eqb a u && eqb b v) (eqb b u && eqb a v) (and-from (eqb b u) (eqb a v) (eq-eqb b u (p .1)) (eq-eqb a v (p .0)))
+
     not-couple : (u v a b : ℕ) → a < b → ((a ≡ min u v) × (b ≡ max u v) → ⊥) → couple u v a b ≡ false
     not-couple u v a b h p =
         elim (cases-bool (couple u v a b)) [
@@ -161,10 +165,10 @@ laid-net old n u v long hu hv d free =
     let second = lowered-puts mid hi lo (omega (arith, first .long)) (omega arith) (omega arith) in
     let same : sizeOver (length new) n ≡ size = ap (λ l. sizeOver l n) (second .long ∙ first .long) in
     let rest : (x y : ℕ) → y < 256 → ((x ≡ u) × (y ≡ v) → ⊥) → ((x ≡ v) × (y ≡ u) → ⊥) → bit new x y ≡ bit old x y =
-            λ x y h p q. second .rest x y h (λ r. ⊎-elim (λ (l : u < v). q (omega (arith, r .0), omega (arith, r .1))) (λ (l : v ≤ u). p (omega (arith, r .0), omega (arith, r .1))) (cases-lt u v))
-            ∙ first .rest x y h (λ r. ⊎-elim (λ (l : u < v). p (omega (arith, r .0), omega (arith, r .1))) (λ (l : v ≤ u). q (omega (arith, r .0), omega (arith, r .1))) (cases-lt u v)) in
+    λ x y h p q. second .rest x y h (λ r. ⊎-elim (λ (l : u < v). q (omega (arith, r .0), omega (arith, r .1))) (λ (l : v ≤ u). p (omega (arith, r .0), omega (arith, r .1))) (cases-lt u v))
+    ∙ first .rest x y h (λ r. ⊎-elim (λ (l : u < v). p (omega (arith, r .0), omega (arith, r .1))) (λ (l : v ≤ u). q (omega (arith, r .0), omega (arith, r .1))) (cases-lt u v)) in
     let marks : (a b : ℕ) → matrixMark new size a b ≡ remarked (matrixMark old size) u v 2 a b =
-            marks-changed old new size u v 1 0 hu hv few d (second .rest lo hi (omega arith) (λ p. omega (arith, p .0)) ∙ first .here) (second .here) rest in
+    marks-changed old new size u v 1 0 hu hv few d (second .rest lo hi (omega arith) (λ p. omega (arith, p .0)) ∙ first .here) (second .here) rest in
     let fewer : countPairs (remarked (matrixMark old size) u v 2) 0 size ≡ countPairs (matrixMark old size) 0 size - 1 = omega (arith, filled-count (matrixMark old size) size u v (mark-alike old size) d hu hv free) in
     ap (λ s. counted s (matrixMark new s)) same ∙ counted-same size size _ _ refl marks
     ∙ (λ i. record { size = size; mark = remarked (matrixMark old size) u v 2; room = fewer i })

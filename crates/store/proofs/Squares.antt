@@ -80,7 +80,6 @@ cleared-rest b k j h hj d =
 module _ (old : List ℕ) (u v w t : ℕ) (long : 8192 ≤ length old) (hu : u < 256) (hv : v < 256)
     (here : bitOf w (v % 8) ≡ t)
     (rest : (j : ℕ) → j < 8 → (j ≡ v % 8 → ⊥) → bitOf w j ≡ bitOf (getD old (place u v) 0) j) where
-
   inside : place u v < length old
   inside = omega arith
 
@@ -93,12 +92,12 @@ module _ (old : List ℕ) (u v w t : ℕ) (long : 8192 ≤ length old) (hu : u <
         rest = λ x y hy d.
             ⊎-elim
             (λ (e : place x y ≡ place u v).
-                let xu : x ≡ u = omega arith in
-                let ne : y % 8 ≡ v % 8 → ⊥ = λ s. d (xu, omega arith) in
-                ap (λ i. bitOf (getD (set old (place u v) w) i 0) (y % 8)) e
-                ∙ ap (λ b. bitOf b (y % 8)) (getD-set-same old (place u v) w 0 inside)
-                ∙ rest (y % 8) (omega arith) ne
-                ∙ ap (λ i. bitOf (getD old i 0) (y % 8)) (sym e))
+            let xu : x ≡ u = omega arith in
+            let ne : y % 8 ≡ v % 8 → ⊥ = λ s. d (xu, omega arith) in
+            ap (λ i. bitOf (getD (set old (place u v) w) i 0) (y % 8)) e
+            ∙ ap (λ b. bitOf b (y % 8)) (getD-set-same old (place u v) w 0 inside)
+            ∙ rest (y % 8) (omega arith) ne
+            ∙ ap (λ i. bitOf (getD old i 0) (y % 8)) (sym e))
             (λ (n : place x y ≡ place u v → ⊥). ap (λ b. bitOf b (y % 8)) (getD-set-other old (place u v) (place x y) w 0 n))
             (cases-eq (place x y) (place u v));
       }

@@ -60,9 +60,9 @@ mark-small : (bytes : List ℕ) (n u v : ℕ) → matrixMark bytes n u v ≤ 2
 mark-small bytes n u v =
     ⊎-elim (λ e. omega (arith, mark-same bytes n u v e))
     (λ d. ⊎-elim
-        (λ (h : max u v < n). omega (arith, mark-in bytes n u v d h, pair-small (bit bytes (min u v) (max u v)) (bit bytes (max u v) (min u v))))
-        (λ (h : n ≤ max u v). omega (arith, mark-outside bytes n u v h))
-        (cases-lt (max u v) n))
+    (λ (h : max u v < n). omega (arith, mark-in bytes n u v d h, pair-small (bit bytes (min u v) (max u v)) (bit bytes (max u v) (min u v))))
+    (λ (h : n ≤ max u v). omega (arith, mark-outside bytes n u v h))
+    (cases-lt (max u v) n))
     (cases-eq u v)
 
 pub mark-alike : (bytes : List ℕ) (n u v : ℕ) → matrixMark bytes n u v ≡ matrixMark bytes n v u
@@ -71,11 +71,11 @@ mark-alike bytes n u v =
     let hi : max u v ≡ max v u = omega arith in
     ⊎-elim (λ e. mark-same bytes n u v e ∙ sym (mark-same bytes n v u (sym e)))
     (λ d. ⊎-elim
-        (λ (h : max u v < n).
-            mark-in bytes n u v d h ∙ ap (λ x. pairMark (bit bytes x (max u v)) (bit bytes (max u v) x)) lo
-            ∙ ap (λ x. pairMark (bit bytes (min v u) x) (bit bytes x (min v u))) hi ∙ sym (mark-in bytes n v u (λ e. d (sym e)) (omega arith)))
-        (λ (h : n ≤ max u v). mark-outside bytes n u v h ∙ sym (mark-outside bytes n v u (omega arith)))
-        (cases-lt (max u v) n))
+    (λ (h : max u v < n).
+    mark-in bytes n u v d h ∙ ap (λ x. pairMark (bit bytes x (max u v)) (bit bytes (max u v) x)) lo
+    ∙ ap (λ x. pairMark (bit bytes (min v u) x) (bit bytes x (min v u))) hi ∙ sym (mark-in bytes n v u (λ e. d (sym e)) (omega arith)))
+    (λ (h : n ≤ max u v). mark-outside bytes n u v h ∙ sym (mark-outside bytes n v u (omega arith)))
+    (cases-lt (max u v) n))
     (cases-eq u v)
 
 -- no more pairs of a mark than pairs

@@ -5,7 +5,7 @@ ghost use lib.ListN.{length};
 ghost use denote.Ref.{now as held, name};
 ghost use Rattle.store.specs.Nets.{countRow, countPairs};
 ghost use Rattle.store.specs.Refusals.{Checks, pairRefusal, Lays};
-ghost use Rattle.store.specs.Matrices.{netOf, bytesOf, matrixNet, emptyNet, sizeRefusal, Makes, SetsSize, Ties, LaysBits};
+ghost use Rattle.store.specs.Matrices.{netOf, bytesOf, matrixNet, emptyNet, Makes, SetsSize, Ties, LaysBits};
 ghost use Rattle.store.specs.MatrixLaws.{matrix-lawful};
 use crate::refusal::Refusal;
 use crate::square::lower;
@@ -37,9 +37,8 @@ impl<'a> Matrix<'a> {
         ensures makes { λ r. ⌜ Makes n (now (self .entry)) (now (self .exit)) r ⌝ }
         ensures same_area { λ _. ⌜ name (now (self .exit) .area) ≡ name (now (self .entry) .area) ⌝ }
     {
-        self.check_size(n)?;
+        self.set_size(n)?;
         wipe(self.area);
-        self.n = n;
         Ok(())
     }
 
@@ -48,7 +47,12 @@ impl<'a> Matrix<'a> {
         ensures sets_size { λ r. ⌜ SetsSize n (now (self .entry)) (now (self .exit)) r ⌝ }
         ensures same_area { λ _. ⌜ name (now (self .exit) .area) ≡ name (now (self .entry) .area) ⌝ }
     {
-        self.check_size(n)?;
+        if n == 0 || n > 256 {
+            return Err(Refusal::SizeOutside);
+        }
+        if self.area.len() < 8192 {
+            return Err(Refusal::AreaTooShort);
+        }
         self.n = n;
         Ok(())
     }
@@ -88,19 +92,6 @@ impl<'a> Matrix<'a> {
         total
     }
 
-    // Whether n stations fit the area.
-    fn check_size(&self, n: usize) -> Result<(), Refusal>
-        ensures { λ r. ⌜ Checks (sizeRefusal n (length (bytesOf (now (self .entry))))) r ⌝ }
-    {
-        if n == 0 || n > 256 {
-            return Err(Refusal::SizeOutside);
-        }
-        if self.area.len() < 8192 {
-            return Err(Refusal::AreaTooShort);
-        }
-        Ok(())
-    }
-
     // Whether u and v are two stations of the matrix.
     fn check_pair(&self, u: usize, v: usize) -> Result<(), Refusal>
         ensures { λ r. ⌜ Checks (pairRefusal (netOf (now (self .entry)) .size) u v) r ⌝ }
@@ -137,7 +128,11 @@ impl<'a> Matrix<'a> {
         if test(self.area, lower_station, upper_station) != 1 {
             return 0;
         }
-        if test(self.area, upper_station, lower_station) == 1 { 1 } else { 2 }
+        if test(self.area, upper_station, lower_station) == 1 {
+            1
+        } else {
+            2
+        }
     }
 }
 

@@ -13,6 +13,6 @@ loop-a-again c =
     let b = c .args .b in
     let a = c .loop-a .a in
     elim (c .if-pair-mark-mark .came) [
-      then-pair-mark-mark w ↦ (omega (arith, w .total-is, c .loop-a .inv .0, row-hit mark m b a (sym (c .pair-mark .ensures) ∙ w .if-pair-mark-mark .taken)), omega (arith, w .total-is, c .loop-a .inv .1))
+      | then-pair-mark-mark w ↦ (omega (arith, w .total-is, c .loop-a .inv .0, row-hit mark m b a (sym (c .pair-mark .ensures) ∙ w .if-pair-mark-mark .taken)), omega (arith, w .total-is, c .loop-a .inv .1))
       | else-pair-mark-mark w ↦ (omega (arith, w .total-is, c .loop-a .inv .0, row-miss mark m b a (λ e. w .if-pair-mark-mark .left (c .pair-mark .ensures ∙ e))), omega (arith, w .total-is, c .loop-a .inv .1))
     ]

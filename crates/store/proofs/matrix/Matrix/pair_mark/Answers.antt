@@ -17,7 +17,7 @@ returns-then-u-v c =
     let bytes = c .args .self .now .area .now in
     let n = sizeOver (length bytes) (c .args .self .now .n) in
     elim (c .then-u-v .came) [
-      then-u-v·by·then-u-v w ↦ sym (mark-same bytes n (c .args .u) (c .args .v) (w .if-u-v .taken))
+      | then-u-v·by·then-u-v w ↦ sym (mark-same bytes n (c .args .u) (c .args .v) (w .if-u-v .taken))
       | then-u-v·by·else-u-v·then-upper-station-stations w ↦ sym (mark-outside bytes n (c .args .u) (c .args .v) (omega (arith, w .stations .ensures, w .if-upper-station-stations .taken)))
     ]
 

@@ -34,11 +34,12 @@ returns c =
     let ne = two .differ in
     let bytes : c .raise-2 .last .area ≡ raised (raised old u v) v u = c .raise-2 .ensures ∙ ap (λ x. raised x v u) (c .raise .ensures) in
     record {
-      ties =
-          ( c .in-Continue-check-pair .ensures tt
-          , bytes
-          , refl
-          , ap (λ x. matrixNet x (c .args .self .now .n)) bytes
-            ∙ tied-net old (c .args .self .now .n) u v (size-two (length old) (c .args .self .now .n) (omega arith)) (omega arith) (omega arith) ne );
+      ties = (
+        c .in-Continue-check-pair .ensures tt,
+        bytes,
+        refl,
+        ap (λ x. matrixNet x (c .args .self .now .n)) bytes
+            ∙ tied-net old (c .args .self .now .n) u v (size-two (length old) (c .args .self .now .n) (omega arith)) (omega arith) (omega arith) ne,
+      );
       same-area = refl;
     }

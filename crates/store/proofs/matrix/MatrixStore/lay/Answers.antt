@@ -36,12 +36,13 @@ returns c =
     let ne = two .differ in
     let free : netOf (c .args .self .now) .mark u v ≡ 0 = omega arith in
     let bytes : c .lower .last .area ≡ lowered (raised old (min u v) (max u v)) (max u v) (min u v) =
-            c .lower .ensures ∙ ap (λ x. lowered x (c .max-upper-station .result) (c .min-lower-station .result)) (c .raise .ensures)
-            ∙ ap₂ (λ lo hi. lowered (raised old lo hi) hi lo) (c .min-lower-station .ensures) (c .max-upper-station .ensures) in
+    c .lower .ensures ∙ ap (λ x. lowered x (c .max-upper-station .result) (c .min-lower-station .result)) (c .raise .ensures)
+    ∙ ap₂ (λ lo hi. lowered (raised old lo hi) hi lo) (c .min-lower-station .ensures) (c .max-upper-station .ensures) in
     record {
-      lays =
-          ( free-allowed old n u v (omega arith) (omega arith) ne free
-          , ap (λ x. matrixNet x n) bytes ∙ laid-net old n u v (size-two (length old) n (omega arith)) (omega arith) (omega arith) ne free );
+      lays = (
+        free-allowed old n u v (omega arith) (omega arith) ne free,
+        ap (λ x. matrixNet x n) bytes ∙ laid-net old n u v (size-two (length old) n (omega arith)) (omega arith) (omega arith) ne free,
+      );
       bits = (bytes, refl);
       same-area = refl;
     }

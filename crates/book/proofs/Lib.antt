@@ -1,0 +1,13 @@
+pub mod Pieces
+pub mod LineSteps
+pub mod Table
+pub mod Steps
+pub mod Splits
+pub mod Entries
+pub mod Accepts
+pub mod Networks
+pub mod Grammars
+pub mod Numbers
+pub mod Examples
+pub mod Drawings
+pub mod Promises

@@ -1,0 +1,3 @@
+mod Areas
+mod Figures
+mod Reports
