@@ -13,13 +13,14 @@ use Rattle.std.specs.declared.result.Result.{Result}
 use Rattle.std.specs.declared.result.Result.the-variants.{Ok, Err}
 use Rattle.std.proofs.shelf.Lists.{append-nil}
 use Rattle.std.proofs.shelf.Tests.{cond-true, cond-false, cases-bool, cases-eq, lt-ltb, le-ltb, ltb-true, ltb-false, eqb-true, eqb-false, ne-eqb, or-parts, or-from, both-ways}
+use Rattle.book.specs.FirstFault.{Lacks}
 use Rattle.book.specs.Grammar.{Name, WellFormed}
 use Rattle.book.proofs.Entries.{Follows, SoundAfter, Entries, spell, spelled}
 use Rattle.book.specs.declared.faults.Layer.the-variants.{Line as line-layer, Book as book-layer}
 use Rattle.book.specs.Faults.{Spot, Fault, fault-in, spot-at}
 use Rattle.book.specs.Reading.{Entry, station, tie, stations, found, givenRead, tiesRead, shapeRead, entryRead, onward, linesRead, lastRead, reading, wordsRead, lineRead, Shape, gives, ties, split, next, empty, isByte, unless, nameFault, afterS, afterT}
 use Rattle.book.proofs.LineSteps.{split-cons}
-use Rattle.book.proofs.Splits.{unsplit, unsplit-split, Lacks, split-lacks, split-only, name-lacks, fault-none, none-fault, not-empty, found-at, none-among, found-cases, among-some, among-none}
+use Rattle.book.proofs.Splits.{unsplit, unsplit-split, split-lacks, split-only, name-lacks, fault-none, none-fault, not-empty, found-at, none-among, found-cases, among-some, among-none}
 
 -- the line has the shape
 abbrev pub Spells : Shape → List ℕ → Type 0
@@ -27,7 +28,7 @@ Spells (gives a p) l = (l ≡ 83 ∷ 32 ∷ a) × WellFormed a
 Spells (ties a p b q) l = (l ≡ 84 ∷ 32 ∷ (a ++ 32 ∷ b)) × WellFormed a × WellFormed b
 
 -- a word that is one byte
-is-byte : (c : ℕ) (w : List ℕ) → isByte c w ≡ true → w ≡ c ∷ []
+pub is-byte : (c : ℕ) (w : List ℕ) → isByte c w ≡ true → w ≡ c ∷ []
 is-byte c [] e = absurd (both-ways false refl e)
 is-byte c (b ∷ []) e = ap (λ x. x ∷ []) (eqb-true b c e)
 is-byte c (b ∷ d ∷ w) e = absurd (both-ways false refl e)
@@ -38,7 +39,7 @@ unless-ok None r sh e = (refl, e)
 unless-ok (Some s) r sh e = let z : _≡_ {A = ℕ} 0 1 = cc in absurd (omega arith)
 
 -- a fault is no answer
-no-shape : {A : Type 0} {B : Type 0} (s : Spot) (x : A) → _≡_ {A = Result A Spot} (Err s) (Ok x) → B
+pub no-shape : {A : Type 0} {B : Type 0} (s : Spot) (x : A) → _≡_ {A = Result A Spot} (Err s) (Ok x) → B
 no-shape s x e = let z : _≡_ {A = ℕ} 0 1 = cc in absurd (omega arith)
 
 -- what is read after S was spelled
@@ -187,7 +188,7 @@ entry-read above at (tie a b) f =
     ∙ cond-false (eqb (u .0) (v .0)) (Err (spot-at book-layer 28 q)) (Ok (tie a b)) (ne-eqb (u .0) (v .0) differ)
 
 -- all the lines
-entry-ok : (ns : List Name) (x : Result Shape Spot) (e : Entry) → entryRead ns x ≡ Ok e → (sh : Shape) × (x ≡ Ok sh) × (shapeRead ns sh ≡ Ok e)
+pub entry-ok : (ns : List Name) (x : Result Shape Spot) (e : Entry) → entryRead ns x ≡ Ok e → (sh : Shape) × (x ≡ Ok sh) × (shapeRead ns sh ≡ Ok e)
 entry-ok ns (Err s) e h = no-shape s e h
 entry-ok ns (Ok sh) e h = (sh, refl, h)
 

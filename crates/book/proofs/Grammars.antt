@@ -30,7 +30,7 @@ sound-push above [] e s f = (subst (λ x. Follows x e) (append-nil above) f, tt)
 sound-push above (d ∷ es) e s f = (s .0, sound-push (above ++ d ∷ []) es e (s .1) (subst (λ x. Follows x e) (sym (append-assoc above (d ∷ []) es)) f))
 
 -- the lines that the entries spell
-abbrev LinesOf : List Entry → Type 0
+abbrev pub LinesOf : List Entry → Type 0
 LinesOf es = Lines (spelled es) (stations es) (tiesOf es)
 
 -- lines of equal text, names and ties
@@ -47,7 +47,7 @@ lines-push above (tie a b) l f =
     (tie-line a b l (f .2) (f .3) (f .4))
 
 -- the lines of sound entries after those above
-lines-after : (above es : List Entry) → LinesOf above → SoundAfter above es → LinesOf (above ++ es)
+pub lines-after : (above es : List Entry) → LinesOf above → SoundAfter above es → LinesOf (above ++ es)
 lines-after above [] l s = subst LinesOf (sym (append-nil above)) l
 lines-after above (e ∷ es) l s = subst LinesOf (append-assoc above (e ∷ []) es) (lines-after (above ++ e ∷ []) es (lines-push above e l (s .0)) (s .1))
 

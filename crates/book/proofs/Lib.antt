@@ -7,6 +7,8 @@ pub mod Entries
 pub mod Accepts
 pub mod Networks
 pub mod Grammars
+pub mod LineFaults
+pub mod FirstFaults
 pub mod Numbers
 pub mod Examples
 pub mod Drawings

@@ -23,6 +23,7 @@ use Rattle.book.specs.Drawing.{Whole, Clear, Beyond, BookDone}
 use Rattle.book.specs.Promise.{networkOf, Holds, Accepted, Rejected}
 use Rattle.book.proofs.Accepts.{accepts-all}
 use Rattle.book.proofs.Grammars.{reading-book, reading-alone, reading-none}
+use Rattle.book.proofs.FirstFaults.{reading-first}
 use Rattle.book.proofs.Networks.{networked}
 use Rattle.book.proofs.Numbers.{numbers-tied}
 use Rattle.book.proofs.Table.{names-length}
@@ -119,7 +120,8 @@ wiped-same a b e = rw e
 pub rejected : (b : List ℕ) (f : BookFault) (old made drawn new : Matrix) → 8192 ≤ length (bytesOf old) → bytesOf made ≡ wiped (bytesOf old) → BookDone b made drawn (Err f) → (n : ℕ) → n ≡ netOf old .size → Makes n drawn new (Ok tt) → Rejected b f old new
 rejected b f old made drawn new long bytes done n size makes =
     record {
-      first = done .0;
+      first = reading-first b _ (done .0);
+      read = done .0;
       none = λ ns ts fb. reading-none b _ ns ts (done .0) fb;
       net = makes .3 ∙ ap emptyNet size;
       bytes = makes .1 ∙ wiped-same (bytesOf drawn) (bytesOf old) (still-beyond old made drawn long bytes (done .1) .later);

@@ -12,6 +12,7 @@ use Rattle.std.specs.declared.option.Option.the-variants.{Some, None}
 use Rattle.std.specs.shelf.Text.{sameBytes}
 use Rattle.std.proofs.shelf.Equals.{sameBytes-decides}
 use Rattle.std.proofs.shelf.Tests.{cond-true, cond-false, cases-bool, le-ltb, ltb-false, eq-eqb, eqb-true, ne-eqb, both-ways}
+use Rattle.book.specs.FirstFault.{Lacks}
 use Rattle.book.specs.Grammar.{Name, nameByte, AllNameBytes, WellFormed, Among}
 use Rattle.book.specs.declared.faults.Layer.the-variants.{Word as word-layer}
 use Rattle.book.specs.Faults.{spot-at}
@@ -39,11 +40,6 @@ unsplit-split c (x ∷ xs) =
     (λ (e : eqb x c ≡ true). ap (unsplit c) (cond-true (eqb x c) ([] ∷ split c xs) (led (x ∷ []) (split c xs)) e ∙ ap (λ s. [] ∷ s) (q .2)) ∙ ap (λ y. c ∷ y) h ∙ ap (λ n. n ∷ xs) (sym (eqb-true x c e)))
     (λ (e : eqb x c ≡ false). ap (unsplit c) (cond-false (eqb x c) ([] ∷ split c xs) (led (x ∷ []) (split c xs)) e ∙ ap (led (x ∷ [])) (q .2)) ∙ unsplit-led c (x ∷ []) (q .0) (q .1) ∙ ap (λ y. x ∷ y) h)
     (cases-bool (eqb x c))
-
--- the list has no byte c
-abbrev pub Lacks : ℕ → List ℕ → Type 0
-Lacks c [] = Unit {0}
-Lacks c (x ∷ xs) = (x ≡ c → ⊥) × Lacks c xs
 
 -- a first piece without c, then c
 pub split-lacks : (c : ℕ) (p t : List ℕ) → Lacks c p → split c (p ++ c ∷ t) ≡ p ∷ split c t

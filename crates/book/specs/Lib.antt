@@ -4,5 +4,6 @@ pub mod Reading
 pub mod Pairs
 pub mod Shown
 pub mod Drawing
+pub mod FirstFault
 pub mod Promise
 pub mod Tables

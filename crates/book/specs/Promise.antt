@@ -19,6 +19,7 @@ use Rattle.book.specs.declared.reader.ReadError.the-variants.{Store, Book}
 use Rattle.book.specs.Faults.{faultOf}
 use Rattle.book.specs.Grammar.{Name, FieldBook, Networked, tied}
 use Rattle.book.specs.Reading.{reading}
+use Rattle.book.specs.FirstFault.{FirstFault}
 use Rattle.book.specs.Tables.{namesIn, Inside}
 
 -- the network of a field book: its stations, its ties, no fill, and room for each pair that is not tied
@@ -43,9 +44,10 @@ pub record Accepted (book : List ℕ) (table : Names) (old new : Matrix) : Type 
   pub listed : namesIn book table ≡ names
   pub inside : Inside book table
 
--- Refused: the fault is the reading's first, the book is no field book; the matrix keeps its size and has no pair.
+-- Refused: the book is no field book, and the fault is its first; the matrix keeps its size and has no pair.
 pub record Rejected (book : List ℕ) (fault : BookFault) (old new : Matrix) : Type 0 where
-  pub first : reading book ≡ Err (faultOf fault)
+  pub first : FirstFault book (faultOf fault)
+  pub read : reading book ≡ Err (faultOf fault)
   pub none : (ns : List Name) (ts : List (Name × Name)) → FieldBook book ns ts → ⊥
   pub net : netOf new ≡ emptyNet (netOf old .size)
   pub bytes : bytesOf new ≡ wiped (bytesOf old)

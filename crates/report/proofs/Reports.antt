@@ -27,4 +27,4 @@ counts-reported book area out out′ final table old new n m written begin end a
 
 pub fault-reported : (book area out out′ final : List ℕ) (fault : BookFault) (old new : Matrix) (written : ℕ) → bytesOf old ≡ area → final ≡ bytesOf new → Rejected book fault old new → Wrote (faultLine (faultOf fault)) out out′ written → (text : List ℕ) × Reported book area final text × Wrote text out out′ written
 fault-reported book area out out′ final fault old new written begin end r w =
-    (_, refused (faultOf fault) (r .first) (r .none) (end ∙ r .bytes ∙ ap wiped begin), w)
+    (_, refused (faultOf fault) (r .first) (r .read) (r .none) (end ∙ r .bytes ∙ ap wiped begin), w)

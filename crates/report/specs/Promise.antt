@@ -12,6 +12,7 @@ use Rattle.store.specs.Nets.{countPairs}
 use Rattle.store.specs.Refusals.{number}
 use Rattle.store.specs.Squares.{wiped}
 use Rattle.book.specs.Faults.{Fault}
+use Rattle.book.specs.FirstFault.{FirstFault}
 use Rattle.book.specs.Grammar.{Name, FieldBook, tied}
 use Rattle.book.specs.Promise.{Holds}
 use Rattle.book.specs.Reading.{reading}
@@ -29,7 +30,7 @@ faultLine fault = refusedLine (fault .spot .number) (fault .line) (fault .spot .
 -- fault of a book that is none, with 8,192 zero bytes.
 pub data Reported (book old new : List ℕ) : List ℕ → Type 0 where
   accepted : (names : List Name) (ties : List (Name × Name)) → FieldBook book names ties → Holds names ties old new → Reported book old new (acceptedLine (length names) (tieCount names ties))
-  refused : (fault : Fault) → reading book ≡ Err fault → ((names : List Name) (ties : List (Name × Name)) → FieldBook book names ties → ⊥) → new ≡ wiped old → Reported book old new (faultLine fault)
+  refused : (fault : Fault) → FirstFault book fault → reading book ≡ Err fault → ((names : List Name) (ties : List (Name × Name)) → FieldBook book names ties → ⊥) → new ≡ wiped old → Reported book old new (faultLine fault)
 
 -- `report`: the text at the start of the output, and its length; or, where an area is too short, 9, and both areas as they were
 abbrev pub Reports : List ℕ → List ℕ → List ℕ → List ℕ → List ℕ → Result ℕ Refusal → Type 0
