@@ -19,7 +19,7 @@ pub enum WordFault {
 
 impl WordFault {
     // The fault's number: 24 or 25.
-    pub fn number(&self) -> u8
+    pub(crate) fn number(&self) -> u8
         ensures { λ r. ⌜ r ≡ wordSpot (now (self .entry)) .number ⌝ }
     {
         match self {
@@ -29,7 +29,7 @@ impl WordFault {
     }
 
     // The byte of the book where the fault is.
-    pub fn byte(&self) -> usize
+    pub(crate) fn byte(&self) -> usize
         ensures { λ r. ⌜ r ≡ wordSpot (now (self .entry)) .byte ⌝ }
     {
         match self {
@@ -50,7 +50,7 @@ pub enum LineFault {
 
 impl LineFault {
     // The fault's number: 21 to 25.
-    pub fn number(&self) -> u8
+    pub(crate) fn number(&self) -> u8
         ensures { λ r. ⌜ r ≡ lineSpot (now (self .entry)) .number ⌝ }
     {
         match self {
@@ -62,7 +62,7 @@ impl LineFault {
     }
 
     // The line, or a word of it.
-    pub fn layer(&self) -> Layer
+    pub(crate) fn layer(&self) -> Layer
         ensures { λ r. ⌜ r ≡ lineSpot (now (self .entry)) .layer ⌝ }
     {
         match self {
@@ -74,7 +74,7 @@ impl LineFault {
     }
 
     // The byte of the book where the fault is.
-    pub fn byte(&self) -> usize
+    pub(crate) fn byte(&self) -> usize
         ensures { λ r. ⌜ r ≡ lineSpot (now (self .entry)) .byte ⌝ }
     {
         match self {
