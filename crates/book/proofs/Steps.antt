@@ -2,9 +2,11 @@
 use mathlib.Core.Path.{_≡_, refl, sym, ap, subst, _∙_}
 use mathlib.Core.Bool.{Bool, true, false, cond, _||_}
 use mathlib.Core.List.{List, [], _∷_, _++_, append-assoc}
+use mathlib.Core.Logic.{inl, inr}
 use Prim.Native.Nat.{ℕ, suc, _+_, _-_, _<_, _≤_}
 use Rattle.std.proofs.shelf.Lists.{take-all, append-nil}
-use Rattle.book.specs.Shown.{Ends, Moved}
+use Rattle.book.specs.declared.lines.Line.{Line}
+use Rattle.book.specs.Shown.{Ends, shapeOf, Shaped, Misshaped, Moved}
 use Rattle.book.specs.Tables.{firstNames, Inside, namesIn}
 use Rattle.book.proofs.Table.{names-length}
 use native.Mathlib.Omega.{arith}
@@ -66,7 +68,7 @@ module _ (b : List ℕ) (at k x : ℕ) (ends : Ends 10 b at (length b) x) where
       ∙ ap (λ r. onward k (entryRead (stations above) (lineRead at (piece b at x))) (λ e. linesRead (above ++ e ∷ []) (next at (piece b at x)) (k + 1) r)) (sym (q .2))
 
   -- a line that is read leads to the next
-  pub line-goes : (x ≡ length b → ⊥) → (ns : List Name) (sh : Shape) (e : Entry) → lineRead at (piece b at x) ≡ Ok sh → shapeRead ns sh ≡ Ok e
+  line-goes : (x ≡ length b → ⊥) → (ns : List Name) (sh : Shape) (e : Entry) → lineRead at (piece b at x) ≡ Ok sh → shapeRead ns sh ≡ Ok e
       → (above : List Entry) → stations above ≡ ns → linesRead above at k (split 10 (piece b at (length b))) ≡ linesRead (above ++ e ∷ []) (x + 1) (k + 1) (split 10 (piece b (x + 1) (length b)))
   line-goes ne ns sh e p q above s =
       onto ne above
@@ -82,7 +84,7 @@ module _ (b : List ℕ) (at k x : ℕ) (ends : Ends 10 b at (length b) x) where
       ∙ ap (λ n. Err (fault-in n (f .spot))) (sym fk)
 
   -- a line of the wrong shape ends the reading
-  pub line-stops : (x ≡ length b → ⊥) → (n : ℕ) (s : Spot) → lineRead at (piece b at x) ≡ Err s → n ≡ k
+  line-stops : (x ≡ length b → ⊥) → (n : ℕ) (s : Spot) → lineRead at (piece b at x) ≡ Err s → n ≡ k
       → (above : List Entry) → linesRead above at k (split 10 (piece b at (length b))) ≡ Err (fault-in n s)
   line-stops ne n s p nk above =
       onto ne above
@@ -90,10 +92,25 @@ module _ (b : List ℕ) (at k x : ℕ) (ends : Ends 10 b at (length b) x) where
       ∙ ap (λ n. Err (fault-in n s)) (sym nk)
 
   -- a line without byte 10 ends the reading
-  pub last-stops : x ≡ length b → at < length b → (above : List Entry) → linesRead above at k (split 10 (piece b at (length b))) ≡ Err (fault-in k (spot-at line-layer 21 at))
+  last-stops : x ≡ length b → at < length b → (above : List Entry) → linesRead above at k (split 10 (piece b at (length b))) ≡ Err (fault-in k (spot-at line-layer 21 at))
   last-stops q h above =
       ap (linesRead above at k) (ends .pieces ∙ ap (λ r. piece b at x ∷ r) (rest-none 10 b x (length b) q) ∙ ap (λ j. piece b at j ∷ []) q)
       ∙ ap (lastRead above at k) (piece-first b at (length b) h (omega arith))
+
+-- a line without byte 10, or of the wrong shape, ends the reading
+pub misshaped-stops : (b : List ℕ) (at k x n : ℕ) (s : Spot) → Misshaped b at x s → at < length b → n ≡ k → (above : List Entry) → linesRead above at k (split 10 (piece b at (length b))) ≡ Err (fault-in n s)
+misshaped-stops b at k x n s m h nk above =
+    elim (m .how) [
+      | inl q ↦ last-stops b at k x (m .ends) (q .0) h above ∙ ap (λ t. Err (fault-in k t)) (sym (q .1)) ∙ ap (λ i. Err (fault-in i s)) (sym nk)
+      | inr q ↦ line-stops b at k x (m .ends) (λ e. omega arith) n s (q .1) nk above
+    ]
+
+-- a line of the right shape that is admitted leads to the next
+pub shaped-goes : (b : List ℕ) (at k x next : ℕ) (l : Line) (ns : List Name) (e : Entry) → Shaped b at x l next → shapeRead ns (shapeOf l) ≡ Ok e
+    → (above : List Entry) → stations above ≡ ns → linesRead above at k (split 10 (piece b at (length b))) ≡ linesRead (above ++ e ∷ []) next (k + 1) (split 10 (piece b next (length b)))
+shaped-goes b at k x next l ns e p q above s =
+    line-goes b at k x (p .ends) (λ h. omega (arith, p .newline)) ns (shapeOf l) e (p .shape) q above s
+    ∙ ap (λ j. linesRead (above ++ e ∷ []) j (k + 1) (split 10 (piece b j (length b)))) (sym (p .after))
 
 -- the reading ends after the last line
 pub last-ends : (b : List ℕ) (at k : ℕ) (above : List Entry) → at ≡ length b → linesRead above at k (split 10 (piece b at (length b))) ≡ cond (eqb (length (stations above)) 0) (Err (fault-in 0 (spot-at book-layer 30 at))) (Ok above)

@@ -2,6 +2,7 @@
 use mathlib.Core.Path.{_≡_}
 use mathlib.Core.Bool.{true, false, cond}
 use mathlib.Core.List.{List, [], _∷_, _++_}
+use mathlib.Core.Logic.{_⊎_}
 use Prim.Native.Nat.{ℕ, _+_, _<_, _≤_}
 use lib.Dec.{eqb}
 use lib.ListN.{length, take, drop}
@@ -18,7 +19,7 @@ use Rattle.book.specs.declared.faults.WordFault.{WordFault}
 use Rattle.book.specs.declared.faults.LineFault.{LineFault}
 use Rattle.book.specs.declared.faults.FaultInLine.{FaultInLine}
 use Rattle.book.specs.declared.faults.BookFault.{BookFault}
-use Rattle.book.specs.declared.faults.Layer.the-variants.{Word as word-layer}
+use Rattle.book.specs.declared.faults.Layer.the-variants.{Word as word-layer, Line as line-layer}
 use Rattle.book.specs.declared.reader.Step.{Step}
 use Rattle.book.specs.Pairs.{pairsOf}
 use Rattle.book.specs.declared.lines.Line.{Line}
@@ -124,10 +125,28 @@ abbrev pub Admitted : List ℕ → ℕ → Line → Names → Names → Result (
 Admitted b k l t u (Ok x) = (shapeRead (namesIn b t) (shapeOf l) ≡ Ok (entryOf l)) × (namesIn b u ≡ namesIn b t ++ stations (entryOf l ∷ [])) × Inside b u × (listOf x ≡ pairsOf (namesIn b t) (entryOf l)) × Known (t .count) x
 Admitted b k l t u (Err e) = Refused k (shapeRead (namesIn b t) (shapeOf l)) e
 
--- a line has been read for its shape, or has its fault and its number
-abbrev pub NumberedLine : List ℕ → ℕ → ℕ → ℕ → Result Line FaultInLine → Type 0
-NumberedLine b i j k (Ok l) = (lineRead i (piece b i j) ≡ Ok (shapeOf l)) × Placed b l
-NumberedLine b i j k (Err e) = (lineRead i (piece b i j) ≡ Err (lineSpot (e .fault))) × (e .line ≡ k)
+-- the line from `at` to before its byte 10 at `end` has the shape of l, and the next begins after it
+pub record Shaped (b : List ℕ) (at end : ℕ) (l : Line) (next : ℕ) : Type 0 where
+  pub ends : Ends 10 b at (length b) end
+  pub newline : end < length b
+  pub after : next ≡ end + 1
+  pub shape : lineRead at (piece b at end) ≡ Ok (shapeOf l)
+  pub placed : Placed b l
+
+-- the line at `at` has no byte 10, or is of no right shape
+pub record Misshaped (b : List ℕ) (at end : ℕ) (s : Spot) : Type 0 where
+  pub ends : Ends 10 b at (length b) end
+  pub how : ((end ≡ length b) × (s ≡ spot-at line-layer 21 at)) ⊎ ((end < length b) × (lineRead at (piece b at end) ≡ Err s))
+
+-- a line has been read for its shape, or has its fault
+abbrev pub LineAt : List ℕ → ℕ → Result (Line × ℕ) LineFault → Type 0
+LineAt b at (Ok x) = (end : ℕ) × Shaped b at end (x .0) (x .1)
+LineAt b at (Err f) = (end : ℕ) × Misshaped b at end (lineSpot f)
+
+-- the same, the fault with the line's number
+abbrev pub NumberedLine : List ℕ → ℕ → ℕ → Result (Line × ℕ) FaultInLine → Type 0
+NumberedLine b at k (Ok x) = LineAt b at (Ok x)
+NumberedLine b at k (Err e) = LineAt b at (Err (e .fault)) × (e .line ≡ k)
 
 -- the line at `at` has been read as the entry e: the names with its own, its tie by number, and where the next line begins
 pub record Moved (b : List ℕ) (at k : ℕ) (t u : Names) (s : Step) (e : Entry) : Type 0 where

@@ -1,10 +1,10 @@
 // One line of a field book, read for its shape.
 ghost use mathlib.Core.Path.{_≡_};
-ghost use Prim.Native.Nat.{_+_, _≤_};
+ghost use Prim.Native.Nat.{_+_, _<_, _≤_};
 ghost use lib.ListN.{length};
 ghost use Rattle.std.specs.Vec.{made};
 ghost use Rattle.book.specs.Reading.{piece, afterS, afterT, lineRead};
-ghost use Rattle.book.specs.Shown.{rest, lineShown, Placed, NumberedLine};
+ghost use Rattle.book.specs.Shown.{rest, lineShown, Placed, LineAt, NumberedLine};
 use crate::faults::FaultInLine;
 use crate::faults::LineFault;
 use crate::faults::LineFromWord;
@@ -82,18 +82,30 @@ fn read_line<'a>(book: &'a [u8], at: usize, end: usize) -> Result<Line<'a>, Line
     }
 }
 
+// The line at `at`, and where the next begins.
+fn line_at<'a>(book: &'a [u8], at: usize) -> Result<(Line<'a>, usize), LineFault>
+    requires { ⌜ at < length (now book) ⌝ }
+    ensures { λ r. ⌜ LineAt (now (book .entry)) at r ⌝ }
+{
+    let end = piece_end(book, at, book.len(), b'\n');
+    if end == book.len() {
+        return Err(LineFault::NoNewline { at });
+    }
+    let line = read_line(book, at, end)?;
+    Ok((line, end + 1))
+}
+
 // The same, a fault with the line's number.
 pub(crate) fn numbered_line<'a>(
     book: &'a [u8],
     at: usize,
-    end: usize,
     line: usize,
-) -> Result<Line<'a>, FaultInLine>
-    requires { ⌜ at ≤ end ⌝ ∗ ⌜ end ≤ length (now book) ⌝ }
-    ensures { λ r. ⌜ NumberedLine (now (book .entry)) at end line r ⌝ }
+) -> Result<(Line<'a>, usize), FaultInLine>
+    requires { ⌜ at < length (now book) ⌝ }
+    ensures { λ r. ⌜ NumberedLine (now (book .entry)) at line r ⌝ }
 {
-    match read_line(book, at, end) {
-        Ok(l) => Ok(l),
+    match line_at(book, at) {
+        Ok(read) => Ok(read),
         Err(fault) => Err(FaultInLine { fault, line }),
     }
 }

@@ -13,14 +13,12 @@ use crate::faults::BookFault;
 use crate::faults::BookFaultDebug;
 use crate::faults::BookFaultPartialEq;
 use crate::faults::BookFromLine;
-use crate::faults::LineFault;
 use crate::lines::Line;
 use crate::lines::numbered_line;
 use crate::names::Names;
 use crate::names::add_name;
 use crate::names::find_name;
 use crate::words::Part;
-use crate::words::piece_end;
 use store::Matrix;
 use store::MatrixStore;
 use store::Refusal;
@@ -100,16 +98,9 @@ fn next_line(book: &[u8], names: &mut Names, at: usize, line: usize) -> Result<S
     requires { ⌜ Inside (now book) (now names) ⌝ ∗ ⌜ at < length (now book) ⌝ }
     ensures { λ r. ⌜ OneLine (now (book .entry)) at line (now (names .entry)) (now (names .exit)) r ⌝ }
 {
-    let end = piece_end(book, at, book.len(), 10);
-    if end == book.len() {
-        return Err(BookFault::Line {
-            fault: LineFault::NoNewline { at },
-            line,
-        });
-    }
-    let l = numbered_line(book, at, end, line)?;
+    let (l, next) = numbered_line(book, at, line)?;
     let tie = admit(book, names, l, line)?;
-    Ok(Step { next: end + 1, tie })
+    Ok(Step { next, tie })
 }
 
 // Ties the two stations in the matrix, if the line ties any.
