@@ -1,5 +1,6 @@
 // Field books at the bounds: 256 stations and 65,536 bytes.
 ghost use Prim.Native.Nat.{_+_, _<_, _≤_};
+ghost use lib.ListN.{length};
 use crate::expect::says;
 use std::test::*;
 
@@ -25,91 +26,74 @@ fn write_name(book: &mut [u8; 65536], at: usize, k: usize)
     book[at + 1] = b'A' + (k % 16) as u8;
 }
 
-// Writes a line "T xy zw" of stations u and v.
-fn write_tie(book: &mut [u8; 65536], at: usize, u: usize, v: usize)
-    requires { ⌜ at + 8 ≤ 65536 ⌝ ∗ ⌜ u < 256 ⌝ ∗ ⌜ v < 256 ⌝ }
-{
-    book[at] = b'T';
-    book[at + 1] = b' ';
-    write_name(book, at + 2, u);
-    book[at + 4] = b' ';
-    write_name(book, at + 5, v);
-    book[at + 7] = b'\n';
-}
-
-// Writes a line of five bytes.
-fn write_line(book: &mut [u8; 65536], at: usize, line: &[u8; 5])
-    requires { ⌜ at + 5 ≤ 65536 ⌝ }
-{
-    book[at..at + 5].copy_from_slice(line);
-}
-
-// Writes ties of the first station to each other one, after the stations.
-fn write_ties_of_first(book: &mut [u8; 65536]) {
-    for k in 0..255 {
-        write_tie(book, STATION_BYTES + 8 * k, 0, k + 1);
-    }
-}
-
 // Writes 8,032 different ties of stations 0 to 40 with stations 41 to 240, after the stations.
 fn write_different_ties(book: &mut [u8; 65536]) {
     for k in 0..8032 {
-        write_tie(book, STATION_BYTES + 8 * k, k / 200, 41 + k % 200);
+        let at = STATION_BYTES + 8 * k;
+        book[at..at + 8].copy_from_slice(b"T .. ..\n");
+        write_name(book, at + 2, k / 200);
+        write_name(book, at + 5, 41 + k % 200);
     }
 }
 
-// Writes two stations and as many ties of them as make 65,536 bytes, and one byte 10 more.
+// Writes two stations and as many ties of them as make 65,536 bytes, and one byte more.
 fn write_longest(book: &mut [u8; 65537]) {
     book[0..9].copy_from_slice(b"S A\nS BB\n");
-    for k in 0..9361 {
-        let at = 9 + 7 * k;
-        book[at..at + 7].copy_from_slice(b"T A BB\n");
+    for k in 9..65537 {
+        book[k] = b"T A BB\n"[(k - 9) % 7];
     }
-    book[65536] = b'\n';
 }
 
-// A book of 256 stations is accepted.
+// Writes the lines after those of the stations.
+fn write_after_stations(book: &mut [u8; 65536], lines: &[u8])
+    requires { ⌜ length (now lines) ≤ 100 ⌝ }
+{
+    book[STATION_BYTES..STATION_BYTES + lines.len()].copy_from_slice(lines);
+}
+
+// What the report says of 256 stations and the lines after them.
+fn after_256_stations(lines: &[u8], line: &[u8]) -> bool
+    requires { ⌜ length (now lines) ≤ 100 ⌝ }
+{
+    let mut book = [0; 65536];
+    write_stations(&mut book);
+    write_after_stations(&mut book, lines);
+    says(&book[0..STATION_BYTES + lines.len()], line)
+}
+
+// What the report says of the first bytes of the longest book, where byte 65,535 is replaced.
+fn of_longest(length: usize, last: u8, line: &[u8]) -> bool
+    requires { ⌜ «length» ≤ 65537 ⌝ }
+{
+    let mut book = [0; 65537];
+    write_longest(&mut book);
+    book[65535] = last;
+    says(&book[0..length], line)
+}
+
+// 256 stations are accepted, and the first and the last of them can be tied.
 #[test]
 fn accepts_256_stations() -> Result<(), Fail> {
-    let mut book = [0; 65536];
-    write_stations(&mut book);
-    says(&book[0..STATION_BYTES], b"stations 256 ties 0\n")
+    let untied = after_256_stations(b"", b"stations 256 ties 0\n");
+    check(untied & after_256_stations(b"T AA PP\n", b"stations 256 ties 1\n"))
 }
 
-// Line 257 gives one station more, or repeats a name, or has a fault of its own.
+// One station more is refused, after a tie too.
 #[test]
 fn refuses_a_257th_station() -> Result<(), Fail> {
-    let mut book = [0; 65536];
-    write_stations(&mut book);
-    write_line(&mut book, STATION_BYTES, b"S QA\n");
-    says(&book[0..1285], b"refused 29 line 257 byte 1282\n")?;
-    says(&book[0..1284], b"refused 21 line 257 byte 1280\n")?;
-    write_line(&mut book, STATION_BYTES, b"S AA\n");
-    says(&book[0..1285], b"refused 26 line 257 byte 1282\n")?;
-    write_line(&mut book, STATION_BYTES, b"S PP\n");
-    says(&book[0..1285], b"refused 26 line 257 byte 1282\n")?;
-    write_line(&mut book, STATION_BYTES, b"S Q_\n");
-    says(&book[0..1285], b"refused 25 line 257 byte 1283\n")
+    let next = after_256_stations(b"S QA\n", b"refused 29 line 257 byte 1282\n");
+    let later = after_256_stations(b"T AA PP\nS QA\n", b"refused 29 line 258 byte 1290\n");
+    check(next & later)
 }
 
-// A tie between two of 256 stations, and then one station more.
+// A line without an end, a name given before and a bad byte are refused before one station more.
 #[test]
-fn refuses_a_257th_station_after_a_tie() -> Result<(), Fail> {
-    let mut book = [0; 65536];
-    write_stations(&mut book);
-    write_tie(&mut book, STATION_BYTES, 0, 255);
-    write_line(&mut book, 1288, b"S QA\n");
-    says(&book[0..1288], b"stations 256 ties 1\n")?;
-    says(&book[0..1293], b"refused 29 line 258 byte 1290\n")
-}
-
-// Every other station is tied to the first.
-#[test]
-fn counts_255_ties_of_one_station() -> Result<(), Fail> {
-    let mut book = [0; 65536];
-    write_stations(&mut book);
-    write_ties_of_first(&mut book);
-    says(&book[0..3320], b"stations 256 ties 255\n")
+fn finds_other_faults_of_a_257th_station() -> Result<(), Fail> {
+    let unended = after_256_stations(b"S QA", b"refused 21 line 257 byte 1280\n");
+    let first_again = after_256_stations(b"S AA\n", b"refused 26 line 257 byte 1282\n");
+    let last_again = after_256_stations(b"S PP\n", b"refused 26 line 257 byte 1282\n");
+    let bad_byte = after_256_stations(b"S Q_\n", b"refused 25 line 257 byte 1283\n");
+    check(unended & first_again & last_again & bad_byte)
 }
 
 // 256 stations and 8,032 different ties of them take 65,536 bytes.
@@ -118,25 +102,19 @@ fn counts_as_many_ties_as_fit() -> Result<(), Fail> {
     let mut book = [0; 65536];
     write_stations(&mut book);
     write_different_ties(&mut book);
-    says(&book, b"stations 256 ties 8032\n")
+    check(says(&book, b"stations 256 ties 8032\n"))
 }
 
 // 65,536 bytes are read, to the last of them.
 #[test]
 fn accepts_65536_bytes() -> Result<(), Fail> {
-    let mut book = [0; 65537];
-    write_longest(&mut book);
-    says(&book[0..65536], b"stations 2 ties 1\n")?;
-    book[65535] = b'B';
-    says(&book[0..65536], b"refused 21 line 9363 byte 65529\n")
+    let accepted = of_longest(65536, b'\n', b"stations 2 ties 1\n");
+    check(accepted & of_longest(65536, b'B', b"refused 21 line 9363 byte 65529\n"))
 }
 
 // One byte more is refused before any line is read.
 #[test]
 fn refuses_65537_bytes() -> Result<(), Fail> {
-    let mut book = [0; 65537];
-    says(&book, b"refused 20 line 0 byte 65537\n")?;
-    says(&book[0..65536], b"refused 21 line 1 byte 0\n")?;
-    write_longest(&mut book);
-    says(&book, b"refused 20 line 0 byte 65537\n")
+    let zeros = says(&[0; 65537], b"refused 20 line 0 byte 65537\n");
+    check(zeros & of_longest(65537, b'\n', b"refused 20 line 0 byte 65537\n"))
 }

@@ -9,3 +9,5 @@ mod matrix_cases;
 mod reader_cases;
 #[cfg(test)]
 mod report_cases;
+#[cfg(test)]
+mod script;

@@ -1,105 +1,107 @@
 // The reader on a matrix: names, sizes, and faults by their layer.
 use crate::expect::all;
+use crate::expect::is_wiped;
 use crate::large_books::write_stations;
+use crate::script::Call::*;
+use crate::script::answers;
 use book::BookFault;
 use book::Layer;
 use book::LineFault;
 use book::Names;
 use book::ReadError;
 use book::WordFault;
-use book::faults::BookFaultDebug;
 use book::faults::BookFaultPartialEq;
-use book::faults::LayerDebug;
 use book::faults::LayerPartialEq;
 use book::read;
-use book::reader::ReadErrorDebug;
 use std::test::*;
 use store::Matrix;
 use store::MatrixStore;
 use store::Refusal;
 use store::Store;
-use store::refusal::RefusalDebug;
 use store::refusal::RefusalPartialEq;
 
-// Station k has the name, byte for byte.
-fn is_named(names: &Names, book: &[u8], k: usize, expected: &[u8]) -> Result<(), Fail> {
+// Station k has the name, byte for byte; no bytes stand for no name.
+fn is_named(names: &Names, book: &[u8], k: usize, expected: &[u8]) -> bool {
     match names.name(book, k) {
-        Some(name) => check(name.len() == expected.len() && name.starts_with(expected)),
-        None => Err(Fail::new("no name")),
+        Some(name) => name == expected && name.len() > 0,
+        None => expected.len() == 0,
     }
 }
 
-// Station k has no name.
-fn is_nameless(names: &Names, book: &[u8], k: usize) -> Result<(), Fail> {
-    match names.name(book, k) {
-        Some(_) => Err(Fail::new("a name")),
-        None => Ok(()),
+// Once the book is read, station k has the name in another text.
+fn names(book: &[u8], other: &[u8], k: usize, expected: &[u8]) -> bool {
+    let mut area = [7; 8192];
+    let mut matrix = Matrix::over(&mut area);
+    match read(book, &mut matrix) {
+        Ok(names) => is_named(&names, other, k, expected),
+        Err(_) => false,
     }
 }
 
-// The fault for which the book is refused.
-fn fault_of(book: &[u8], matrix: &mut Matrix<'_>) -> Result<BookFault, Fail> {
+// A matrix over a short area refuses the book by 9, and stays.
+fn is_too_short_for(book: &[u8]) -> bool {
+    let mut area = [255; 8191];
+    let mut matrix = Matrix::over(&mut area);
+    let refused = match read(book, &mut matrix) {
+        Err(ReadError::Store(refusal)) => refusal == Refusal::AreaTooShort,
+        _ => false,
+    };
+    let one_station = matrix.size() == 1;
+    refused & one_station & all(&area, 255)
+}
+
+// How many stations the book gives, or 0 where it is refused.
+fn stations(matrix: &mut Matrix<'_>, book: &[u8]) -> usize {
     match read(book, matrix) {
-        Ok(_) => Err(Fail::new("the book is accepted")),
-        Err(ReadError::Store(_)) => Err(Fail::new("the store refuses")),
-        Err(ReadError::Book(fault)) => Ok(fault),
+        Ok(names) => names.count(),
+        Err(_) => 0,
     }
 }
 
-// The refusal of the store for which the book is not read.
-fn refusal_of(book: &[u8], matrix: &mut Matrix<'_>) -> Result<Refusal, Fail> {
+// The book is refused for the fault, which lies in the layer.
+fn has_fault(matrix: &mut Matrix<'_>, book: &[u8], expected: BookFault, layer: Layer) -> bool {
     match read(book, matrix) {
-        Ok(_) => Err(Fail::new("the book is accepted")),
-        Err(ReadError::Store(refusal)) => Ok(refusal),
-        Err(ReadError::Book(_)) => Err(Fail::new("the book has a fault")),
+        Err(ReadError::Book(fault)) => (fault == expected) & (fault.layer() == layer),
+        _ => false,
     }
+}
+
+// The book is refused for the fault; the size stays, and no pair: neither its own nor an earlier one.
+fn finds(book: &[u8], expected: BookFault, layer: Layer) -> bool {
+    let mut area = [255; 8200];
+    let mut matrix = Matrix::over(&mut area);
+    let _ = matrix.set_size(7);
+    let refused = has_fault(&mut matrix, book, expected, layer);
+    let same_size = matrix.size() == 7;
+    refused & same_size & is_wiped(&area, 255)
 }
 
 // The names come in the order of the book, and none after the last.
 #[test]
 fn answers_the_names() -> Result<(), Fail> {
-    let mut area = [7; 8192];
-    let mut matrix = Matrix::over(&mut area);
     let book = b"S North\nS b\nT b North\nS ABCDEFGHIJKL\n";
-    let names = read(book, &mut matrix)?;
-    check_eq(names.count(), 3)?;
-    is_named(&names, book, 0, b"North")?;
-    is_named(&names, book, 1, b"b")?;
-    is_named(&names, book, 2, b"ABCDEFGHIJKL")?;
-    is_nameless(&names, book, 3)?;
-    is_nameless(&names, book, 256)?;
-    is_nameless(&names, book, 18446744073709551615)
+    let first = names(book, book, 0, b"North") & names(book, book, 1, b"b");
+    let last = names(book, book, 2, b"ABCDEFGHIJKL") & names(book, book, 3, b"");
+    check(first & last & names(book, book, 18446744073709551615, b""))
 }
 
 // In a shorter book there is no name that would end past it.
 #[test]
 fn answers_no_name_past_the_book() -> Result<(), Fail> {
-    let mut area = [7; 8192];
-    let mut matrix = Matrix::over(&mut area);
-    let names = read(b"S North\nS East\n", &mut matrix)?;
-    is_named(&names, b"S North\nS East", 1, b"East")?;
-    is_nameless(&names, b"S North\nS Eas", 1)?;
-    is_nameless(&names, b"S North\n", 1)?;
-    is_named(&names, b"S North\n", 0, b"North")?;
-    is_nameless(&names, b"S", 0)?;
-    is_nameless(&names, b"", 0)
+    let book = b"S North\nS East\n";
+    let whole = names(book, b"S North\nS East", 1, b"East");
+    let cut = names(book, b"S North\nS Eas", 1, b"") & names(book, b"S North\n", 1, b"");
+    check(whole & cut & names(book, b"", 0, b""))
 }
 
 // All 256 stations of a book have their names.
 #[test]
 fn answers_256_names() -> Result<(), Fail> {
-    let mut area = [7; 8192];
-    let mut matrix = Matrix::over(&mut area);
     let mut text = [0; 65536];
     write_stations(&mut text);
     let book = &text[0..1280];
-    let names = read(book, &mut matrix)?;
-    check_eq(names.count(), 256)?;
-    check_eq(matrix.size(), 256)?;
-    is_named(&names, book, 0, b"AA")?;
-    is_named(&names, book, 17, b"BB")?;
-    is_named(&names, book, 255, b"PP")?;
-    is_nameless(&names, book, 256)
+    let ends = names(book, book, 0, b"AA") & names(book, book, 255, b"PP");
+    check(ends & names(book, book, 17, b"BB") & names(book, book, 256, b""))
 }
 
 // An accepted book decides the size and the ties, whatever was there before.
@@ -107,99 +109,62 @@ fn answers_256_names() -> Result<(), Fail> {
 fn sets_size_and_ties() -> Result<(), Fail> {
     let mut area = [255; 8192];
     let mut matrix = Matrix::over(&mut area);
-    matrix.make(7)?;
-    matrix.tie(0, 1)?;
-    matrix.lay(1, 2)?;
-    let names = read(b"S A\nS B\nS C\nS D\nT D B\nT A C\n", &mut matrix)?;
-    check_eq(names.count(), 4)?;
-    check_eq(matrix.size(), 4)?;
-    check_eq(matrix.count(1), 2)?;
-    check_eq(matrix.count(2), 0)?;
-    check_eq(matrix.room(), 4)?;
-    check_eq(matrix.mark(1, 3), 1)?;
-    check_eq(matrix.mark(2, 0), 1)?;
-    check_eq(matrix.mark(0, 1), 0)?;
-    check_eq(matrix.mark(1, 2), 0)
+    let _ = matrix.set_size(7);
+    let four = stations(&mut matrix, b"S A\nS B\nS C\nS D\nT D B\nT A C\n") == 4;
+    let tied = answers(
+        &mut matrix,
+        &[
+            (Size, 4),
+            (Count(1), 2),
+            (Count(2), 0),
+            (Room, 4),
+            (Mark(1, 3), 1),
+            (Mark(2, 0), 1),
+            (Mark(0, 1), 0),
+            (Mark(1, 2), 0),
+        ],
+    );
+    check(four & tied)
 }
 
-// A refused book leaves the size, and no pair: neither its own nor an earlier one.
+// A refused book leaves the size, and not the ties that come before its fault.
 #[test]
 fn leaves_the_size_when_it_refuses() -> Result<(), Fail> {
-    let mut area = [255; 8200];
-    let mut matrix = Matrix::over(&mut area);
-    matrix.make(7)?;
-    matrix.tie(0, 1)?;
-    matrix.lay(1, 2)?;
-    let fault = fault_of(b"S A\nS B\nT A B\nT B C\n", &mut matrix)?;
-    check_eq(fault, BookFault::NameUnknown { at: 18, line: 4 })?;
-    check_eq(matrix.size(), 7)?;
-    check_eq(matrix.room(), 21)?;
-    check_eq(matrix.count(1), 0)?;
-    check_eq(matrix.count(2), 0)?;
-    check(all(&area[0..8192], 0)).note("no bit")?;
-    check(all(&area[8192..], 255)).note("later bytes of the area")
+    let expected = BookFault::NameUnknown { at: 18, line: 4 };
+    check(finds(b"S A\nS B\nT A B\nT B C\n", expected, Layer::Book))
 }
 
 // A matrix over a short area is refused before the book is read, and stays.
 #[test]
 fn refuses_a_short_area() -> Result<(), Fail> {
-    let mut area = [255; 8191];
-    let mut matrix = Matrix::over(&mut area);
-    check_eq(refusal_of(b"S A\n", &mut matrix)?, Refusal::AreaTooShort)?;
-    check_eq(refusal_of(b"X", &mut matrix)?, Refusal::AreaTooShort)?;
-    check_eq(matrix.size(), 1)?;
-    check(all(&area, 255)).note("the bytes stay")
+    check(is_too_short_for(b"S A\n") & is_too_short_for(b"X"))
 }
 
 // A fault of a word, here a byte that a name may not hold.
 #[test]
 fn finds_the_fault_of_a_word() -> Result<(), Fail> {
-    let mut area = [0; 8192];
-    let mut matrix = Matrix::over(&mut area);
-    let fault = fault_of(b"S A\nS B_\n", &mut matrix)?;
-    let expected = BookFault::Line {
-        fault: LineFault::Word(WordFault::BadByte { at: 7 }),
-        line: 2,
-    };
-    check_eq(fault, expected)?;
-    check_eq(fault.number(), 25)?;
-    check_eq(fault.layer(), Layer::Word)?;
-    check_eq(fault.line(), 2)?;
-    check_eq(fault.byte(), 7)
+    let fault = LineFault::Word(WordFault::BadByte { at: 7 });
+    let expected = BookFault::Line { fault, line: 2 };
+    check(finds(b"S A\nS B_\n", expected, Layer::Word))
 }
 
 // A fault of a line, here too many words.
 #[test]
 fn finds_the_fault_of_a_line() -> Result<(), Fail> {
-    let mut area = [0; 8192];
-    let mut matrix = Matrix::over(&mut area);
-    let fault = fault_of(b"S A\nS B C\n", &mut matrix)?;
-    let expected = BookFault::Line {
-        fault: LineFault::WordCount { at: 4 },
-        line: 2,
-    };
-    check_eq(fault, expected)?;
-    check_eq(fault.number(), 23)?;
-    check_eq(fault.layer(), Layer::Line)?;
-    check_eq(fault.line(), 2)?;
-    check_eq(fault.byte(), 4)
+    let fault = LineFault::WordCount { at: 4 };
+    let expected = BookFault::Line { fault, line: 2 };
+    check(finds(b"S A\nS B C\n", expected, Layer::Line))
 }
 
-// A fault of the book, here a name given before, and a book without a station.
+// A fault of the book, here a name given before.
 #[test]
 fn finds_the_fault_of_a_book() -> Result<(), Fail> {
-    let mut area = [0; 8192];
-    let mut matrix = Matrix::over(&mut area);
-    let given = fault_of(b"S A\nS B\nS A\n", &mut matrix)?;
-    check_eq(given, BookFault::NameGiven { at: 10, line: 3 })?;
-    check_eq(given.number(), 26)?;
-    check_eq(given.layer(), Layer::Book)?;
-    check_eq(given.line(), 3)?;
-    check_eq(given.byte(), 10)?;
-    let empty = fault_of(b"", &mut matrix)?;
-    check_eq(empty, BookFault::NoStation { size: 0 })?;
-    check_eq(empty.number(), 30)?;
-    check_eq(empty.layer(), Layer::Book)?;
-    check_eq(empty.line(), 0)?;
-    check_eq(empty.byte(), 0)
+    let expected = BookFault::NameGiven { at: 10, line: 3 };
+    check(finds(b"S A\nS B\nS A\n", expected, Layer::Book))
+}
+
+// A book without a station has a fault of the book too.
+#[test]
+fn finds_no_station() -> Result<(), Fail> {
+    check(finds(b"", BookFault::NoStation { size: 0 }, Layer::Book))
 }
