@@ -1,4 +1,4 @@
--- The book is accepted exactly when sound entries spell it. Assumes nothing.
+-- The book is accepted exactly when sound entries spell it.
 use mathlib.Core.Path.{_≡_, refl, sym, ap, subst, _∙_}
 use mathlib.Core.Bool.{true, false, cond, _||_}
 use mathlib.Core.List.{List, [], _∷_, _++_, append-assoc}

@@ -1,4 +1,4 @@
--- Entries, how they are spelled, and when they are sound. Assumes nothing.
+-- Entries, how they are spelled, and when they are sound.
 use mathlib.Core.Path.{_≡_}
 use mathlib.Core.List.{List, [], _∷_, _++_}
 use Prim.Native.Nat.{ℕ, _<_, _≤_}

@@ -1,4 +1,4 @@
--- The reading at small books, computed; a fault with its line and byte. Assumes nothing.
+-- The reading at small books, computed; a fault with its line and byte.
 use mathlib.Core.Path.{_≡_, refl}
 use mathlib.Core.Bool.{true}
 use mathlib.Core.List.{List, [], _∷_, _++_}

@@ -1,4 +1,4 @@
--- Sound entries and field books are the same, so the reading finds the one field book that there is. Assumes nothing.
+-- Sound entries and field books are the same, so the reading finds the one field book that there is.
 use mathlib.Core.Path.{_≡_, refl, sym, ap, subst, _∙_}
 use mathlib.Core.List.{List, [], _∷_, _++_, append-assoc}
 use Prim.Native.Nat.{ℕ, _<_, _≤_}

@@ -1,9 +1,9 @@
--- The fault that the reading finds in a line is the first of its words. Assumes nothing.
+-- The fault that the reading finds in a line is the first of its words.
 use mathlib.Core.Path.{_≡_, refl, sym, ap, subst, _∙_}
-use mathlib.Core.Bool.{Bool, true, false, cond, _||_}
-use mathlib.Core.List.{List, [], _∷_, _++_, append-assoc}
+use mathlib.Core.Bool.{true, false, cond, _||_}
+use mathlib.Core.List.{List, [], _∷_, _++_}
 use mathlib.Core.Logic.{_⊎_, inl, inr, ⊎-elim}
-use Prim.Native.Nat.{ℕ, zero, suc, _+_, _<_, _≤_}
+use Prim.Native.Nat.{ℕ, suc, _+_, _≤_}
 use native.Mathlib.Omega.{arith}
 use lib.Dec.{eqb, ltb}
 use lib.ListN.{length, getD}
@@ -13,11 +13,11 @@ use Rattle.std.specs.declared.result.Result.{Result}
 use Rattle.std.specs.declared.result.Result.the-variants.{Ok, Err}
 use Rattle.std.proofs.shelf.Tests.{cond-true, cond-false, cases-bool, ltb-true, ltb-false, eqb-true, eqb-false, or-cases, or-parts, both-ways}
 use Rattle.book.specs.declared.faults.Layer.the-variants.{Word as word-layer, Line as line-layer, Book as book-layer}
-use Rattle.book.specs.Faults.{Spot, Fault, spot-at, fault-in}
-use Rattle.book.specs.Grammar.{Name, nameByte, AllNameBytes, WellFormed, Among}
-use Rattle.book.specs.Reading.{Shape, gives, ties, Entry, station, tie, badByte, nameFault, unless, empty, afterS, afterT, next, isByte, wordsRead, lineRead, found, givenRead, tiesRead, shapeRead, entryRead, split, led}
-use Rattle.book.specs.FirstFault.{Lacks, Cut, S, T, WordFaulty, too-long, bad-byte, LineFaulty, kind, station-words, station-empty, tie-words, tie-empty, station-name, left-name, right-name, given-before, left-unknown, right-unknown, itself, one-too-many}
-use Rattle.book.proofs.LineSteps.{split-cons, empty-by}
+use Rattle.book.specs.Faults.{Spot, spot-at}
+use Rattle.book.specs.Grammar.{Name, nameByte, AllNameBytes, WellFormed}
+use Rattle.book.specs.Reading.{Shape, gives, ties, Entry, station, tie, badByte, nameFault, unless, empty, afterS, afterT, next, isByte, wordsRead, lineRead, found, givenRead, tiesRead, entryRead, split, led}
+use Rattle.book.specs.FirstFault.{Cut, S, T, WordFaulty, too-long, bad-byte, LineFaulty, kind, station-words, station-empty, tie-words, tie-empty, station-name, left-name, right-name, given-before, left-unknown, right-unknown, itself, one-too-many}
+use Rattle.book.proofs.LineSteps.{split-cons}
 use Rattle.book.proofs.Splits.{fault-none, found-at, none-among, found-cases}
 use Rattle.book.proofs.Accepts.{is-byte}
 

@@ -1,4 +1,4 @@
--- One line, word by word. Assumes nothing.
+-- One line, word by word.
 use mathlib.Core.Path.{_≡_, refl, ap, _∙_}
 use mathlib.Core.Bool.{true, false, cond}
 use mathlib.Core.List.{List, [], _∷_}

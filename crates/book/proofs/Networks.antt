@@ -1,4 +1,4 @@
--- A field book's names and ties are a network. Assumes nothing.
+-- A field book's names and ties are a network.
 use mathlib.Core.Path.{_≡_, refl, sym, ap, subst, _∙_}
 use mathlib.Core.Bool.{Bool, true, false, _||_, _&&_}
 use mathlib.Core.List.{List, [], _∷_, _++_}

@@ -1,4 +1,4 @@
--- The ties by number, as the reader hands them over, are the ties by name. Assumes nothing.
+-- The ties by number, as the reader hands them over, are the ties by name.
 use mathlib.Core.Path.{_≡_, refl, sym, ap, subst, _∙_}
 use mathlib.Core.List.{List, [], _∷_, _++_, append-assoc}
 use mathlib.Core.Logic.{inl, inr}

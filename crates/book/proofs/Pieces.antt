@@ -1,4 +1,4 @@
--- Pieces of a book. Assumes nothing.
+-- Pieces of a book.
 use mathlib.Core.Path.{_≡_, refl, sym, ap, subst, _∙_}
 use mathlib.Core.Bool.{true, false, cond}
 use mathlib.Core.List.{List, [], _∷_, _++_, append-assoc}

@@ -6,7 +6,6 @@ use mathlib.Core.Logic.{_⊎_, inl, inr, ⊎-elim}
 use Prim.Native.Nat.{ℕ, _<_, _≤_, min, max}
 use native.Mathlib.Omega.{arith}
 use lib.ListN.{length, drop}
-use Rattle.std.specs.declared.result.Result.{Result}
 use Rattle.std.specs.declared.result.Result.the-variants.{Ok, Err}
 use Rattle.std.proofs.shelf.Tests.{cases-bool, cases-eq, cases-lt, both-ways}
 use Rattle.store.specs.declared.matrix.Matrix.{Matrix}
@@ -17,10 +16,10 @@ use Rattle.store.proofs.Marks.{counted-same}
 use Rattle.store.proofs.Squares.{wiped-bit, wiped-length, wiped-later}
 use Rattle.book.specs.declared.faults.BookFault.{BookFault}
 use Rattle.book.specs.declared.names.Names.{Names}
-use Rattle.book.specs.Grammar.{Name, FieldBook, Networked, tied}
+use Rattle.book.specs.Grammar.{Name, Networked, tied}
 use Rattle.book.specs.Reading.{stations, tiesOf}
 use Rattle.book.specs.Drawing.{Whole, Clear, Beyond, BookDone}
-use Rattle.book.specs.Promise.{networkOf, Holds, Accepted, Rejected}
+use Rattle.book.specs.Promise.{Accepted, Rejected}
 use Rattle.book.proofs.Accepts.{accepts-all}
 use Rattle.book.proofs.Grammars.{reading-book, reading-alone, reading-none}
 use Rattle.book.proofs.FirstFaults.{reading-first}

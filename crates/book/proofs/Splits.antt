@@ -1,4 +1,4 @@
--- Pieces put together again, names, and the search among them. Assumes nothing.
+-- Pieces put together again, names, and the search among them.
 use mathlib.Core.Path.{_≡_, refl, sym, ap, _∙_}
 use mathlib.Core.Bool.{true, false}
 use mathlib.Core.List.{List, [], _∷_, _++_, append-assoc}

@@ -1,4 +1,4 @@
--- Entries among the stations above them, and the way from line to line. Assumes nothing.
+-- Entries among the stations above them, and the way from line to line.
 use mathlib.Core.Path.{_≡_, refl, sym, ap, subst, _∙_}
 use mathlib.Core.Bool.{Bool, true, false, cond, _||_}
 use mathlib.Core.List.{List, [], _∷_, _++_, append-assoc}

@@ -1,4 +1,4 @@
--- The table of names. Assumes nothing.
+-- The table of names.
 use mathlib.Core.Path.{_≡_, refl, sym, ap, subst, _∙_}
 use mathlib.Core.Bool.{true, false}
 use mathlib.Core.List.{List, [], _∷_, _++_}

@@ -1,7 +1,7 @@
 -- How the decimal digits of a number come to stand at the end of an area of 20 bytes, the last one first.
 use Prim.Native.Nat.{ℕ, _+_, _-_, _/_, _%_, _^_, _<_, _≤_}
 use mathlib.Core.Path.{_≡_, ap, _∙_}
-use mathlib.Core.List.{List, [], _∷_, _++_, append-assoc}
+use mathlib.Core.List.{List, _∷_, _++_, append-assoc}
 use native.Mathlib.Omega.{arith}
 use lib.ListN.{length, set, drop, length-append, length-drop, length-set}
 use Rattle.std.proofs.shelf.Decimals.{decimal-digit, decimal-some, decimal-step, length-decimal-le}

@@ -1,20 +1,20 @@
 -- What a change of bits does to the net of a matrix.
-use mathlib.Core.Path.{_≡_, refl, sym, ap, ap₂, subst, _∙_}
-use mathlib.Core.Bool.{Bool, true, false, cond, _&&_, _||_}
+use mathlib.Core.Path.{_≡_, refl, sym, ap, ap₂, _∙_}
+use mathlib.Core.Bool.{true, false, _&&_}
 use mathlib.Core.List.{List}
 use mathlib.Core.Logic.{_⊎_, inl, inr, ⊎-elim}
-use Prim.Native.Nat.{ℕ, zero, suc, _+_, _-_, _<_, _≤_, min, max}
+use Prim.Native.Nat.{ℕ, _+_, _-_, _<_, _≤_, min, max}
 use native.Mathlib.Omega.{arith}
 use lib.Dec.{ltb, eqb}
 use lib.ListN.{length}
 use Rattle.std.proofs.shelf.Tests.{cases-eq, cases-lt, cases-bool, or-cases, or-left, or-right, and-parts, and-from, eqb-true, eq-eqb, cond-true, cond-false, both-ways, lt-ltb, le-ltb, ne-eqb}
-use Rattle.store.specs.Nets.{Net, couple, remarked, countPairs, with-fill}
+use Rattle.store.specs.Nets.{couple, remarked, countPairs, with-fill}
 use Rattle.store.specs.Refusals.{layRefusal}
 use Rattle.store.specs.Squares.{bit, raised, lowered, wiped}
 use Rattle.store.specs.Matrices.{pairMark, matrixMark, sizeOver, counted, matrixNet, emptyNet}
 use Rattle.store.specs.MatrixLaws.{size-short, size-long, size-most, mark-same, mark-in, mark-outside, mark-alike}
 use Rattle.store.proofs.Counts.{one-fewer}
-use Rattle.store.proofs.Squares.{Puts, raised-puts, lowered-puts, wiped-bit, wiped-length}
+use Rattle.store.proofs.Squares.{raised-puts, lowered-puts, wiped-bit, wiped-length}
 
 -- nets with the same size and the same marks, both counted
 pub counted-same : (s t : ℕ) (f g : ℕ → ℕ → ℕ) → s ≡ t → ((a b : ℕ) → f a b ≡ g a b) → counted s f ≡ counted t g

@@ -1,17 +1,17 @@
 -- What a write of one byte does to the bits of a square.
 use mathlib.Core.Path.{_≡_, refl, sym, ap, _∙_}
-use mathlib.Core.Bool.{Bool, true, false, cond, _&&_}
+use mathlib.Core.Bool.{Bool, true, cond, _&&_}
 use mathlib.Core.List.{List, _++_}
-use mathlib.Core.Logic.{_≢_, _⊎_, inl, inr, ⊎-elim}
+use mathlib.Core.Logic.{_⊎_, ⊎-elim}
 use Prim.Native.Nat.{ℕ, zero, suc, _+_, _-_, _*_, _/_, _%_, _^_, _<_, _≤_}
 use native.Mathlib.Omega.{arith}
-use lib.Bits.{bitAnd, bitOr, or-shr, or-mod, and-shr, and-mod, or-zero-r, and-zero-r, and-mask}
+use lib.Bits.{bitAnd, bitOr, or-shr, or-mod, and-shr, and-mod, or-zero-r, and-zero-r}
 use lib.Dec.{eqb}
 use lib.ListN.{length, getD, set, drop, replicate, length-set, length-drop, length-append}
 use Rattle.std.proofs.shelf.Bits.{mod-below}
-use Rattle.std.proofs.shelf.Tests.{and-parts, eqb-true, eq-eqb, ne-eqb, cases-eq, cases-order}
+use Rattle.std.proofs.shelf.Tests.{and-parts, eqb-true, eq-eqb, ne-eqb, cases-eq}
 use Rattle.std.proofs.shelf.Lists.{getD-set-same, getD-set-other, getD-append-left, getD-replicate, length-replicate, drop-set-lt, drop-at}
-use Rattle.store.specs.Squares.{place, bitOf, bit, mask, raised, lowered, wiped}
+use Rattle.store.specs.Squares.{place, bitOf, bit, raised, lowered, wiped}
 
 -- a test at each number below n, computed
 abbrev all : ℕ → (ℕ → Bool) → Bool
@@ -115,16 +115,9 @@ lowered-puts old u v long hu hv =
     (λ j hj d. cleared-rest (getD old (place u v) 0) (v % 8) j (omega arith) hj d)
 
 -- bytes beyond the square stay
-beyond : (old : List ℕ) (u v w : ℕ) → u < 256 → v < 256 → drop 8192 (set old (place u v) w) ≡ drop 8192 old
-beyond old u v w hu hv = drop-set-lt 8192 old (place u v) w (omega arith)
-
 pub raised-later : (old : List ℕ) (u v : ℕ) → u < 256 → v < 256 → drop 8192 (raised old u v) ≡ drop 8192 old
 unfolding raised
-raised-later old u v hu hv = beyond old u v _ hu hv
-
-pub lowered-later : (old : List ℕ) (u v : ℕ) → u < 256 → v < 256 → drop 8192 (lowered old u v) ≡ drop 8192 old
-unfolding lowered
-lowered-later old u v hu hv = beyond old u v _ hu hv
+raised-later old u v hu hv = drop-set-lt 8192 old (place u v) _ (omega arith)
 
 -- n zero bytes in front
 zero-front : (n : ℕ) (rest : List ℕ) (k : ℕ) → k < n → getD (replicate n 0 ++ rest) k 0 ≡ 0

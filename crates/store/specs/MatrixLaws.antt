@@ -1,14 +1,14 @@
 -- The net of a matrix is lawful, whatever its bytes. (The trait asks an implementation for this proof, so it stands among the definitions.)
 use mathlib.Core.Path.{_≡_, refl, sym, ap, _∙_}
-use mathlib.Core.Bool.{Bool, true, false, cond}
+use mathlib.Core.Bool.{true, false, cond}
 use mathlib.Core.List.{List}
-use mathlib.Core.Logic.{_⊎_, inl, inr, ⊎-elim}
+use mathlib.Core.Logic.{_⊎_, ⊎-elim}
 use Prim.Native.Nat.{ℕ, zero, suc, _+_, _*_, _<_, _≤_, min, max}
 use native.Mathlib.Omega.{arith}
 use lib.Dec.{ltb, eqb}
 use lib.ListN.{length}
 use Rattle.std.proofs.shelf.Tests.{eq-eqb, ne-eqb, lt-ltb, le-ltb, cases-eq, cases-lt}
-use Rattle.store.specs.Nets.{Net, Lawful, countRow, countPairs}
+use Rattle.store.specs.Nets.{Lawful, countRow, countPairs}
 use Rattle.store.specs.Squares.{bit}
 use Rattle.store.specs.Matrices.{pairMark, matrixMark, sizeOver, matrixNet}
 

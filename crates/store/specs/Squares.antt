@@ -1,11 +1,8 @@
 -- A square of 256 by 256 bits in the first 8,192 bytes of an area: bit v % 8 of the byte u * 32 + v / 8.
-use mathlib.Core.Path.{_≡_}
 use mathlib.Core.List.{List, _++_}
-use Prim.Native.Nat.{ℕ, _+_, _-_, _*_, _/_, _%_, _^_, _<_}
-use native.Mathlib.Omega.{arith}
+use Prim.Native.Nat.{ℕ, _+_, _-_, _*_, _/_, _%_, _^_}
 use lib.Bits.{bitAnd, bitOr}
-use lib.ListN.{length, getD, set, drop, replicate}
-use Rattle.std.proofs.shelf.Bits.{mod-below}
+use lib.ListN.{getD, set, drop, replicate}
 
 -- the byte that has the bit u v
 abbrev pub place : ℕ → ℕ → ℕ
@@ -34,7 +31,3 @@ lowered bytes u v = set bytes (place u v) (bitAnd (getD bytes (place u v) 0) (25
 -- the area with its first 8,192 bytes zero
 unfoldable pub wiped : List ℕ → List ℕ
 wiped bytes = replicate 8192 0 ++ drop 8192 bytes
-
-pub bit-lt : (bytes : List ℕ) (u v : ℕ) → bit bytes u v < 2
-unfolding bit
-bit-lt bytes u v = mod-below (getD bytes (place u v) 0 / 2 ^ (v % 8)) 2 (omega arith)

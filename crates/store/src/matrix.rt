@@ -1,6 +1,6 @@
 // The matrix: a network in the first 8,192 bytes of a lent area.
 ghost use mathlib.Core.Path.{_≡_};
-ghost use Prim.Native.Nat.{ℕ, _<_, _≤_};
+ghost use Prim.Native.Nat.{_<_};
 ghost use lib.ListN.{length};
 ghost use denote.Ref.{now as held, name};
 ghost use Rattle.store.specs.Nets.{countRow, countPairs};

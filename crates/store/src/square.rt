@@ -1,6 +1,6 @@
 // Bits of a square of 256 by 256 in the first 8,192 bytes of an area.
 ghost use mathlib.Core.Path.{_≡_};
-ghost use Prim.Native.Nat.{ℕ, _+_, _*_, _/_, _%_, _<_, _≤_};
+ghost use Prim.Native.Nat.{_+_, _*_, _/_, _%_, _<_, _≤_};
 ghost use lib.ListN.{length};
 ghost use Rattle.store.specs.Squares.{bit, raised, lowered, wiped};
 

@@ -1,5 +1,4 @@
 use Prim.Native.Nat.{_-_, _≤_}
-use lib.ListN.{length}
 use Rattle.book_cases.proofs.unescape.Given as given
 
 abbrev pub Inv-loop-at : given.InvT-loop-at

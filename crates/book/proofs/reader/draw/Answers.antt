@@ -1,5 +1,4 @@
-use mathlib.Core.Path.{_≡_, sym, ap, _∙_, subst}
-use mathlib.Core.List.{[], _∷_}
+use mathlib.Core.Path.{sym, ap, _∙_, subst}
 use Rattle.std.specs.Vec.{listOf}
 use Rattle.store.specs.Matrices.{bytesOf}
 use Rattle.book.specs.Drawing.{drawn}

@@ -1,11 +1,10 @@
-use mathlib.Core.Path.{_≡_, sym, ap, _∙_}
+use mathlib.Core.Path.{_∙_}
 use Prim.Native.Nat.{_≤_}
 use native.Mathlib.Omega.{arith}
 use lib.ListN.{length}
-use Rattle.store.specs.Matrices.{bytesOf, netOf}
+use Rattle.store.specs.Matrices.{bytesOf}
 use Rattle.store.specs.MatrixLaws.{matrix-lawful}
 use Rattle.store.proofs.Checks.{size-fits, size-passes, number-some}
-use Rattle.book.specs.Drawing.{Beyond}
 use Rattle.book.proofs.Promises.{ready, still-beyond, count-is, accepted, rejected}
 use Rattle.book.proofs.Grammars.{reading-book}
 use Rattle.book.proofs.Networks.{networked}

@@ -2,7 +2,6 @@ use mathlib.Core.Path.{_≡_, refl, sym, ap, subst, _∙_}
 use mathlib.Core.List.{[], _∷_, _++_}
 use native.Mathlib.Omega.{arith}
 use lib.ListN.{length}
-use Rattle.std.proofs.shelf.Results.{err-from-errBy}
 use Rattle.std.proofs.shelf.Tests.{cond-false, cond-true, ne-eqb, eq-eqb}
 use Rattle.store.specs.Matrices.{bytesOf}
 use Prim.Native.Nat.{_≤_}

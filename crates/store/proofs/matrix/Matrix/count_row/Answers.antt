@@ -1,6 +1,5 @@
-use mathlib.Core.Path.{_≡_, sym, ap, _∙_}
+use mathlib.Core.Path.{sym, _∙_}
 use native.Mathlib.Omega.{arith}
-use Rattle.store.specs.Nets.{countRow}
 use Rattle.store.specs.Matrices.{netOf}
 use Rattle.store.proofs.Counts.{row-hit, row-miss}
 use Rattle.store.proofs.matrix.Matrix.count_row.Needs as need

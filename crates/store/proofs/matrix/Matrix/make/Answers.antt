@@ -1,8 +1,8 @@
-use mathlib.Core.Path.{_≡_, refl, ap, ap₂, _∙_}
+use mathlib.Core.Path.{_≡_, ap, ap₂, _∙_}
 use native.Mathlib.Omega.{arith}
 use lib.ListN.{length}
 use Rattle.store.specs.Squares.{wiped}
-use Rattle.store.specs.Matrices.{matrixNet, bytesOf}
+use Rattle.store.specs.Matrices.{matrixNet}
 use Rattle.store.proofs.Checks.{size-fits}
 use Rattle.store.proofs.Marks.{wiped-net}
 use Rattle.store.proofs.matrix.Matrix.make.Needs as need
