@@ -139,12 +139,12 @@ shape-follows above (ties a p b q) e l r s =
     ]
 
 -- what is spelled is read
-abbrev bare : Entry → List ℕ
+abbrev pub bare : Entry → List ℕ
 bare (station a) = 83 ∷ 32 ∷ a
 bare (tie a b) = 84 ∷ 32 ∷ (a ++ 32 ∷ b)
 
 -- an entry is its bare line and byte 10
-spell-bare : (e : Entry) (t : List ℕ) → spell e ++ t ≡ bare e ++ 10 ∷ t
+pub spell-bare : (e : Entry) (t : List ℕ) → spell e ++ t ≡ bare e ++ 10 ∷ t
 spell-bare (station a) t = ap (λ x. 83 ∷ 32 ∷ x) (append-assoc a (10 ∷ []) t)
 spell-bare (tie a b) t = ap (λ x. 84 ∷ 32 ∷ x) (append-assoc a (32 ∷ (b ++ 10 ∷ [])) t ∙ ap (λ x. a ++ 32 ∷ x) (append-assoc b (10 ∷ []) t) ∙ sym (append-assoc a (32 ∷ b) (10 ∷ t)))
 
@@ -154,7 +154,7 @@ lacks-both c [] q h k = k
 lacks-both c (x ∷ p) q h k = (h .0, lacks-both c p q (h .1) k)
 
 -- a bare line has no byte 10
-bare-lacks : (above : List Entry) (e : Entry) → Follows above e → Lacks 10 (bare e)
+pub bare-lacks : (above : List Entry) (e : Entry) → Follows above e → Lacks 10 (bare e)
 bare-lacks above (station a) f = (λ e. omega arith, (λ e. omega arith, name-lacks 10 a refl (f .0 .bytes)))
 bare-lacks above (tie a b) f = (λ e. omega arith, (λ e. omega arith, lacks-both 10 a (32 ∷ b) (name-lacks 10 a refl (f .0 .bytes)) (λ e. omega arith, name-lacks 10 b refl (f .1 .bytes))))
 

@@ -106,7 +106,7 @@ lines-stopped above text at k l (m ∷ ls) f cut e =
     ]
 
 -- each entry is a name or a tie
-count-entries : (es : List Entry) → length es ≡ length (stations es) + length (tiesOf es)
+pub count-entries : (es : List Entry) → length es ≡ length (stations es) + length (tiesOf es)
 count-entries [] = refl
 count-entries (station a ∷ es) = let h = count-entries es in omega arith
 count-entries (tie a b ∷ es) = let h = count-entries es in omega arith

@@ -72,7 +72,7 @@ among-formed : (names : List Name) (a : Name) → ((u : ℕ) → u < length name
 among-formed names a w m = subst WellFormed (m .2) (w (m .0) (m .1))
 
 -- lines are spelled by sound entries
-lines-spelling : {text : List ℕ} {names : List Name} {ts : List (Name × Name)} → Lines text names ts → Spelling text names ts
+pub lines-spelling : {text : List ℕ} {names : List Name} {ts : List (Name × Name)} → Lines text names ts → Spelling text names ts
 lines-spelling none = record { es = []; text-is = refl; each = tt; names-are = refl; ties-are = refl }
 lines-spelling (station-line a l w new few) =
     let s = lines-spelling l in

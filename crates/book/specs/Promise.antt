@@ -16,7 +16,7 @@ use Rattle.book.specs.declared.faults.BookFault.{BookFault}
 use Rattle.book.specs.declared.names.Names.{Names}
 use Rattle.book.specs.declared.reader.ReadError.{ReadError}
 use Rattle.book.specs.declared.reader.ReadError.the-variants.{Store, Book}
-use Rattle.book.specs.Faults.{faultOf}
+use Rattle.book.specs.Faults.{Fault, faultOf}
 use Rattle.book.specs.Grammar.{Name, FieldBook, Networked, tied}
 use Rattle.book.specs.Reading.{reading}
 use Rattle.book.specs.FirstFault.{FirstFault}
@@ -32,21 +32,23 @@ pub record Holds (names : List Name) (ties : List (Name × Name)) (old new : Lis
   pub long : length new ≡ length old
   pub later : drop 8192 new ≡ drop 8192 old
 
--- Accepted: the book is a field book, of these names and ties alone; the matrix is its network, and the table has its names.
+-- Accepted: the book is a field book, of these names and ties alone, and has no fault; the matrix is its network, and the table has its names.
 pub record Accepted (book : List ℕ) (table : Names) (old new : Matrix) : Type 0 where
   pub names : List Name
   pub ties : List (Name × Name)
   pub follows : FieldBook book names ties
   pub alone : (ns : List Name) (ts : List (Name × Name)) → FieldBook book ns ts → (ns ≡ names) × (ts ≡ ties)
+  pub faultless : (f : Fault) → FirstFault book f → ⊥
   pub network : Networked names ties
   pub net : netOf new ≡ networkOf names ties
   pub bytes : Holds names ties (bytesOf old) (bytesOf new)
   pub listed : namesIn book table ≡ names
   pub inside : Inside book table
 
--- Refused: the book is no field book, and the fault is its first; the matrix keeps its size and has no pair.
+-- Refused: the book is no field book, and the fault is its first, the only one; the matrix keeps its size and has no pair.
 pub record Rejected (book : List ℕ) (fault : BookFault) (old new : Matrix) : Type 0 where
   pub first : FirstFault book (faultOf fault)
+  pub only : (f : Fault) → FirstFault book f → f ≡ faultOf fault
   pub read : reading book ≡ Err (faultOf fault)
   pub none : (ns : List Name) (ts : List (Name × Name)) → FieldBook book ns ts → ⊥
   pub net : netOf new ≡ emptyNet (netOf old .size)
