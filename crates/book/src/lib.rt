@@ -1,4 +1,6 @@
 // The field book: words, lines and the whole, read into a matrix.
+#![tactic(auto)]
+
 pub mod faults;
 mod lines;
 pub mod names;

@@ -1,5 +1,7 @@
 // Prints a table of small field books with the report of each. A book is a line of standard input,
 // in which `\n` stands for byte 10 and `\xHH` for the byte of those two hexadecimal digits.
+#![tactic(auto)]
+
 ghost use Rattle.std.specs.Prelude.{◌<◌, ◌≤◌, length};
 
 use report::report;

@@ -1,4 +1,6 @@
 // Minimal triangulations: the theorems, grouped by subject. Each clause is one statement of specs/.
+#![tactic(auto)]
+
 ghost use Rattle.graph.specs.Theorems.{ShortWalk, LinkWalk};
 ghost use Rattle.graph.specs.Theorems.{StepMade, StepFrees, StepSpares, FreeStays};
 ghost use Rattle.graph.specs.Theorems.{RunMade, RunUnique, RunFrees, RunLeast, RunMinimal, RunSandwiched, MinimalLaid};

@@ -1,5 +1,7 @@
 // Prints the judgement of each of a table of small field books, by list labels and by count labels. The books stand on standard
 // input, each ended by `=`.
+#![tactic(auto)]
+
 use input::read_whole;
 use report::judgement;
 use search::{CountLabel, Label, ListLabel};

@@ -1,4 +1,6 @@
 // Reads a field book from standard input, judges its network by list labels and prints the judgement.
+#![tactic(auto)]
+
 use input::read_whole;
 use report::judgement;
 use search::{Label, ListLabel};

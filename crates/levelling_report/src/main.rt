@@ -1,4 +1,6 @@
 // Reads a field book from standard input and prints its report.
+#![tactic(auto)]
+
 use input::read_whole;
 use report::report;
 use std::io;

@@ -1,4 +1,6 @@
 // Tests of the libraries together: the report line, the judgement, the reader and the matrix.
+#![tactic(auto)]
+
 #[cfg(test)]
 mod expect;
 #[cfg(test)]

@@ -1,4 +1,6 @@
 // The report: what a field book holds, as text.
+#![tactic(auto)]
+
 ghost use Rattle.std.specs.Prelude.{◌≤◌, length};
 ghost use Rattle.book.specs.Faults.{fault_of};
 ghost use Rattle.report.specs.Lines.{Wrote};

@@ -1,4 +1,6 @@
 // Labels, the search that orders a network by them, and the judge that tells a chordal network from one with a ring.
+#![tactic(auto)]
+
 pub mod judging;
 pub mod label;
 pub mod marks;

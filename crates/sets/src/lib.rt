@@ -1,4 +1,6 @@
 // Sets of stations, and rows of them as the adjacency of a network.
+#![tactic(auto)]
+
 pub mod rows;
 pub mod station_set;
 

@@ -1,4 +1,6 @@
 // Stores of networks: refusals, the trait that every store keeps, and the matrix.
+#![tactic(auto)]
+
 pub mod matrix;
 pub mod refusal;
 mod square;
