@@ -8,12 +8,12 @@ pub returns : goal.returns
 returns c =
     let b = c.args.book.now in
     let t = c.args.names.now in
-    let u = c.add-name.new.names in
+    let u = c.add_name.new.names in
     let p = c.args.p in
     let s = c.requires.1 in
-    let a = c.add-name.ensures in
+    let a = c.add_name.ensures in
     let n = names_length b t t.count in (
-      station_ok (names_in b t) p.bytes.now p.at c.in-default.ensures (omega arith),
+      station_ok (names_in b t) p.bytes.now p.at c.in_default.ensures (omega arith),
       added_names b t u p.at (length p.bytes.now) a ∙ ap (λ x. names_in b t ++ x ∷ []) (sym s.same),
       added_inside b t u p.at (length p.bytes.now) a c.requires.0 (omega arith) s.inside,
     )

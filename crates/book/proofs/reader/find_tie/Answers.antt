@@ -12,9 +12,9 @@ returns c =
     let p = c.args.p in
     let q = c.args.q in
     let u = c.in-Some.u in
-    let v = c.in-Some-find-name.v in
+    let v = c.in-Some-find_name.v in
     let e = c.in-Some.ensures in
-    let f = c.in-Some-find-name.ensures in
+    let f = c.in-Some-find_name.ensures in
     let n = names_length b t t.count in
     let h = pair_found ns p.bytes.now q.bytes.now u v e f in (
       tie_ok ns p.bytes.now p.at q.bytes.now q.at u v e f (λ z. omega arith),

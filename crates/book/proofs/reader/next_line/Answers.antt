@@ -5,25 +5,25 @@ use Rattle.book.specs.Tables.{names_in}
 use Rattle.book.proofs.Steps.{shaped_goes, misshaped_stops, shape_stops}
 use Rattle.book.proofs.reader.next_line.Goals as goal
 
-pub returns-in-err-l : goal.returns-in-err-l
-returns-in-err-l c =
+pub returns-in_err-l : goal.returns-in_err-l
+returns-in_err-l c =
     let p = err_from_is_err_and c.from-residual.result c.from-residual.ensures.1 in
-    let h = c.in-err-l.ensures in
+    let h = c.in_err-l.ensures in
     rw (p.1, p.2) (λ above s. misshaped_stops c.args.book.now c.args.at c.args.line h.0.0 _ _ h.0.1 (omega arith) h.1 above)
 
-pub returns-in-err-tie : goal.returns-in-err-tie
-returns-in-err-tie c =
-    let p = err_from_is_err_and c.from-residual-in-err-tie.result c.from-residual-in-err-tie.ensures.1 in
-    let h = c.in-err-tie.ensures in
-    let shaped = c.in-ok-l.ensures.1 in
-    rw (p.1, p.2) (λ above s. shape_stops c.args.book.now c.args.at c.args.line c.in-ok-l.ensures.0 shaped.ends (λ e. omega (arith, shaped.newline)) (names_in c.args.book.now c.args.names.now) (shape_of c.in-ok-l.l) _ shaped.shape h.0 h.1 above s)
+pub returns-in_err-tie : goal.returns-in_err-tie
+returns-in_err-tie c =
+    let p = err_from_is_err_and c.from-residual-in_err-tie.result c.from-residual-in_err-tie.ensures.1 in
+    let h = c.in_err-tie.ensures in
+    let shaped = c.in_ok-l.ensures.1 in
+    rw (p.1, p.2) (λ above s. shape_stops c.args.book.now c.args.at c.args.line c.in_ok-l.ensures.0 shaped.ends (λ e. omega (arith, shaped.newline)) (names_in c.args.book.now c.args.names.now) (shape_of c.in_ok-l.l) _ shaped.shape h.0 h.1 above s)
 
 pub returns : goal.returns
 returns c =
     let b = c.args.book.now in
-    let l = c.in-ok-l.l in
-    let h = c.in-ok-tie.ensures in
-    let shaped = c.in-ok-l.ensures.1 in
+    let l = c.in_ok-l.l in
+    let h = c.in_ok-tie.ensures in
+    let shaped = c.in_ok-l.ensures.1 in
     let low = shaped.ends.low in (
       entry_of l,
       record {
@@ -33,6 +33,6 @@ returns c =
         inside = h.2;
         pair = h.3;
         known = h.4;
-        goes = λ above s. shaped_goes b c.args.at c.args.line c.in-ok-l.ensures.0 c.in-ok-l.next l (names_in b c.args.names.now) (entry_of l) shaped h.0 above s;
+        goes = λ above s. shaped_goes b c.args.at c.args.line c.in_ok-l.ensures.0 c.in_ok-l.next l (names_in b c.args.names.now) (entry_of l) shaped h.0 above s;
       },
     )

@@ -3,23 +3,23 @@ use Rattle.book.specs.Promise.{Reads}
 use Rattle.report.proofs.Judging.{judged_named, judged_wrote, fault_judged}
 use Rattle.report.proofs.judged.judgement.Goals as goal
 
-pub write-verdict-requires : goal.write-verdict-requires
-write-verdict-requires g c =
-    let j = c.in-ok-verdict.ensures.judges in
+pub write_verdict-requires : goal.write_verdict-requires
+write_verdict-requires g c =
+    let j = c.in_ok-verdict.ensures.judges in
     let p = judged_named g.L.Label.blank g.L.Label.raised g.L.Label.less c.in-Ok.ensures.reads.1 c.args.labels.now c.judge.new.labels
-    c.args.strip.now c.judge.new.strip c.in-ok-verdict.verdict j.4 in
+    c.args.strip.now c.judge.new.strip c.in_ok-verdict.verdict j.4 in
     (omega arith, (omega arith, (p.0, p.1)))
 
-pub returns-in-ok-verdict : goal.returns-in-ok-verdict
-returns-in-ok-verdict g c =
-    let j = c.in-ok-verdict.ensures.judges in (
+pub returns-in_ok-verdict : goal.returns-in_ok-verdict
+returns-in_ok-verdict g c =
+    let j = c.in_ok-verdict.ensures.judges in (
       (omega arith, omega arith),
       omega arith,
       omega arith,
       omega arith,
       judged_wrote g.L.Label.blank g.L.Label.raised g.L.Label.less c.in-Ok.ensures.reads.1 c.args.area.now _ c.args.labels.now
           c.judge.new.labels c.args.strip.now c.judge.new.strip c.args.marks.now c.judge.new.marks c.over-matrix.ensures.bytes (search rules)
-          j.3 c.in-ok-verdict.verdict c.args.out.now _ _ j.4 c.write-verdict.ensures,
+          j.3 c.in_ok-verdict.verdict c.args.out.now _ _ j.4 c.write_verdict.ensures,
     )
 
 pub returns-in-Book : goal.returns-in-Book
@@ -31,5 +31,5 @@ returns-in-Book g c =
       omega arith,
       fault_judged g.L.Label.blank g.L.Label.raised g.L.Label.less c.args.book.now c.args.area.now _ c.args.labels.now c.args.strip.now
           c.args.marks.now c.args.out.now _ c.in-Book.fault c.over-matrix.result c.read.new.matrix _ c.over-matrix.ensures.bytes (search rules) h.1
-          c.write-fault.ensures,
+          c.write_fault.ensures,
     )

@@ -6,4 +6,4 @@ use Rattle.report.proofs.text.put.Goals as goal
 pub returns : goal.returns
 returns c =
     let copied : c.args.at + length c.args.text.now - c.args.at ≡ length c.args.text.now = omega arith in
-    record { area = simp (copied, drop-drop, append_assoc, c.copy-from-slice.ensures.after); ends = refl }
+    record { area = simp (copied, drop-drop, append_assoc, c.copy_from_slice.ensures.after); ends = refl }

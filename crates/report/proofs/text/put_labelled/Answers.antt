@@ -7,6 +7,6 @@ use Rattle.report.proofs.text.put_labelled.Goals as goal
 pub returns : goal.returns
 returns c =
     record {
-      within = omega (arith, few_digits c.args.n (omega arith), c.put-end.ensures.ends, c.put-number.ensures.ends);
-      placed = placed_more (omega arith) c.put-end.ensures c.put-number.ensures;
+      within = omega (arith, few_digits c.args.n (omega arith), c.put-end.ensures.ends, c.put_number.ensures.ends);
+      placed = placed_more (omega arith) c.put-end.ensures c.put_number.ensures;
     }

@@ -6,5 +6,5 @@ use Rattle.report.proofs.text.put_number.Goals as goal
 
 pub returns : goal.returns
 returns c =
-    let copied = between_to_end c.write-digits-start.new.digits c.write-digits-start.result 20 (omega arith) ∙ c.write-digits-start.ensures.spelled in
+    let copied = between_to_end c.write_digits-start.new.digits c.write_digits-start.result 20 (omega arith) ∙ c.write_digits-start.ensures.spelled in
     subst (λ text. Placed c.args.out.now c.args.at text c.put.new.out c.put.result) copied c.put.ensures

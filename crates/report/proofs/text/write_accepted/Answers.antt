@@ -5,5 +5,5 @@ use Rattle.report.proofs.text.write_accepted.Goals as goal
 
 pub returns : goal.returns
 returns c =
-    let two = placed_more (omega arith) c.put-labelled-at.ensures.placed c.put-labelled-at-2.ensures.placed in
+    let two = placed_more (omega arith) c.put_labelled-at.ensures.placed c.put_labelled-at-2.ensures.placed in
     wrote_line (omega (arith, c.put.ensures.ends)) (placed_more (omega arith) two c.put.ensures)

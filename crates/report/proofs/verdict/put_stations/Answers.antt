@@ -16,10 +16,10 @@ unreachable-requires c =
     let named = c.requires.0 in
     let known = named.known c.loop-i.i (omega arith) in
     let few = named.inside.few in
-    c.in-default.ensures (record { known = known; room = omega arith; fits = named.inside.fits _ known })
+    c.in_default.ensures (record { known = known; room = omega arith; fits = named.inside.fits _ known })
 
-pub put-station-end-requires : goal.put-station-end-requires
-put-station-end-requires c =
+pub put_station-end-requires : goal.put_station-end-requires
+put_station-end-requires c =
     let named = c.requires.0 in
     let h = c.in-Some.ensures in
     let s = named.short _ h.0.known in
@@ -43,9 +43,9 @@ loop-i-preserved c =
     omega (arith, length-append (mark ++ c.in-Some.name.now) newline, length-append mark c.in-Some.name.now, c.requires.1.0) in
     let line : station_lines mark names (take i stations) ++ station_line mark c.in-Some.name.now ≡ station_lines mark names (take (i + 1) stations) =
     ap (λ name. station_lines mark names (take i stations) ++ station_line mark name) is ∙ sym (lines_more mark names stations i (omega arith)) in (
-      subst (λ text. Placed c.args.out.now c.args.at text c.put-station-end.new.out c.put-station-end.result) line
-          (placed_more (omega (arith, c.requires.1.1)) c.loop-i.invariant.0 c.put-station-end.ensures),
-      omega (arith, c.put-station-end.ensures.ends, c.loop-i.invariant.1),
+      subst (λ text. Placed c.args.out.now c.args.at text c.put_station-end.new.out c.put_station-end.result) line
+          (placed_more (omega (arith, c.requires.1.1)) c.loop-i.invariant.0 c.put_station-end.ensures),
+      omega (arith, c.put_station-end.ensures.ends, c.loop-i.invariant.1),
     )
 
 pub returns : goal.returns

@@ -5,4 +5,4 @@ pub returns : goal.returns
 returns c =
     let n : c.args.count - 0 ≡ c.args.count = omega arith in
     let l : length (take c.args.count c.args.entries.now) ≡ c.args.count = simp length-take (omega arith) in
-    simp (c.copy-from-slice.ensures.after, n, l)
+    simp (c.copy_from_slice.ensures.after, n, l)

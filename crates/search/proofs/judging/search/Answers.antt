@@ -6,14 +6,14 @@ use Rattle.search.specs.Searches.{SearchMade}
 use Rattle.search.proofs.Standing.{standing_simple, moved}
 use Rattle.search.proofs.judging.search.Goals as goal
 
-pub place-all-order-requires : goal.place-all-order-requires
-place-all-order-requires g c =
+pub place_all-order-requires : goal.place_all-order-requires
+place_all-order-requires g c =
     let net = g.S.Store.meaning c.args.store.now in
     let lawful = g.S.Store.lawful c.args.store.now in (
       omega (arith, c.size-n.ensures, lawful.most),
       (
         omega arith,
-        moved Simple net.size c.size-n.result (standing net) (adj c.rows-of.result) (sym c.size-n.ensures) (λ a b. sym (c.rows-of.ensures a b))
+        moved Simple net.size c.size-n.result (standing net) (adj c.rows_of.result) (sym c.size-n.ensures) (λ a b. sym (c.rows_of.ensures a b))
             (standing_simple net lawful),
       ),
     )
@@ -21,17 +21,17 @@ place-all-order-requires g c =
 pub returns : goal.returns
 returns g c =
     let net = g.S.Store.meaning c.args.store.now in
-    let order = take c.size-n.result c.place-all-order.result in
+    let order = take c.size-n.result c.place_all-order.result in
     record {
       searches = (
         omega arith,
         omega arith,
         (
           order,
-          moved (λ n h. SearchMade g.L.Label.blank g.L.Label.raised g.L.Label.less n h order c.args.labels.now c.place-all-order.new.labels)
-              c.size-n.result net.size (adj c.rows-of.result) (standing net) c.size-n.ensures c.rows-of.ensures c.place-all-order.ensures,
-          c.put-front.ensures,
+          moved (λ n h. SearchMade g.L.Label.blank g.L.Label.raised g.L.Label.less n h order c.args.labels.now c.place_all-order.new.labels)
+              c.size-n.result net.size (adj c.rows_of.result) (standing net) c.size-n.ensures c.rows_of.ensures c.place_all-order.ensures,
+          c.put_front.ensures,
         ),
       );
-      store-stays = refl;
+      store_stays = refl;
     }

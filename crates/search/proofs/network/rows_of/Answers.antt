@@ -8,7 +8,7 @@ pub loop-a-preserved : goal.loop-a-preserved
 loop-a-preserved g c x b =
     let net = g.S.Store.meaning c.args.store.now in
     c.widen.ensures x b
-    ∙ ap₂ (λ s t. s || (eqb x c.loop-a.a && t)) (c.loop-a.invariant x b) (c.row-of.ensures b)
+    ∙ ap₂ (λ s t. s || (eqb x c.loop-a.a && t)) (c.loop-a.invariant x b) (c.row_of.ensures b)
     ∙ joins_row (standing net) c.loop-a.a x b
 
 pub returns : goal.returns

@@ -19,7 +19,7 @@ loop-v-preserved g c =
     let v = c.in-Some.v in (
       λ x e. c.loop-v.invariant.0 x (and_parts (not (eqb x v)) (left x) (sym (c.remove.ensures x) ∙ e)).1,
       λ x e z. elim (cases_eq x v) [
-        | inl m ↦ subst (λ y. Exceeded g.L.Label.less c.args.labels.now (has c.args.among) y) (sym m) c.if-is-unexceeded.ensures
+        | inl m ↦ subst (λ y. Exceeded g.L.Label.less c.args.labels.now (has c.args.among) y) (sym m) c.if-is_unexceeded.ensures
         | inr d ↦ c.loop-v.invariant.1 x e (sym (without_other left new v x c.remove.ensures d) ∙ z)
       ],
     )
@@ -27,4 +27,4 @@ loop-v-preserved g c =
 pub unreachable-requires : goal.unreachable-requires
 unreachable-requires g c =
     not_all_exceeded g.met.L.Label.laws c.args.labels.now (has c.args.among) (has_below c.args.among) c.requires.1
-    (λ x e. c.loop-v.invariant.1 x e (c.in-default.ensures x))
+    (λ x e. c.loop-v.invariant.1 x e (c.in_default.ensures x))

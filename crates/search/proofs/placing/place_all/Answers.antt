@@ -25,9 +25,9 @@ pick-v-requires g c = (
 pub loop-p-preserved : goal.loop-p-preserved
 loop-p-preserved g c =
     found_more c.loop-p.p (c.loop-p.p - 1) c.loop-p.order (has c.loop-p.unplaced) (has c.remove.new.self)
-    (has c.intersection.result) c.reset.new.labels c.loop-p.labels c.raise-all.new.labels c.pick-v.result c.loop-p.invariant (omega arith)
+    (has c.intersection.result) c.reset.new.labels c.loop-p.labels c.raise_all.new.labels c.pick-v.result c.loop-p.invariant (omega arith)
     c.requires.1.1 (omega arith) (omega arith) c.pick-v.ensures c.remove.ensures
-    (λ x. c.intersection.ensures x ∙ ap (λ b. b && has c.remove.new.self x) (c.row.ensures x)) c.raise-all.ensures (omega arith)
+    (λ x. c.intersection.ensures x ∙ ap (λ b. b && has c.remove.new.self x) (c.row.ensures x)) c.raise_all.ensures (omega arith)
 
 pub returns : goal.returns
 returns g c =

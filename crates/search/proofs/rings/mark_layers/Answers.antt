@@ -21,8 +21,8 @@ loop-left-init c =
       refl,
     )
 
-pub overflow-add-d-in-loop-left-2 : goal.overflow-add-d-in-loop-left-2
-overflow-add-d-in-loop-left-2 c =
+pub overflow_add-d-in-loop-left-2 : goal.overflow_add-d-in-loop-left-2
+overflow_add-d-in-loop-left-2 c =
     let r = room c.loop-left.invariant.0 (omega arith) c.requires.1.0 (sym c.loop-left-test.ensures) in
     omega arith
 
@@ -39,7 +39,7 @@ loop-left-smaller c =
 pub loop-left-preserved : goal.loop-left-preserved
 loop-left-preserved c =
     let old = c.loop-left.marks in
-    let new = c.mark-all.new.strip in
+    let new = c.mark_all.new.strip in
     let d = c.loop-left.d in
     let left = has c.loop-left.left in
     let fresh = has c.intersection-fresh.result in
@@ -54,10 +54,10 @@ loop-left-preserved c =
       wave_more c.requires.1.1.1.1 c.requires.1.1.0 (has_below c.args.within) (level old) (level new) left
           (has c.difference-left.result) fresh (has c.touching.result) d c.loop-left.invariant.0
           (sym c.loop-left-test.ensures) touches c.intersection-fresh.ensures c.difference-left.ensures k is_k
-          (level_new old new fresh left d k (k + 1) is_k is_mark c.mark-all.ensures.first low fresh_left (has_below c.intersection-fresh.result) c.loop-left.invariant.0.apart)
-          (level_old old new fresh left d k (k + 1) is_k is_mark c.mark-all.ensures.first low fresh_left (has_below c.intersection-fresh.result) c.loop-left.invariant.0.apart),
-      (λ x l. omega (arith, low_new old new fresh left d k (k + 1) is_k is_mark c.mark-all.ensures.first low fresh_left (has_below c.intersection-fresh.result) c.loop-left.invariant.0.apart x l)),
-      c.mark-all.ensures.rest ∙ c.loop-left.invariant.2,
+          (level_new old new fresh left d k (k + 1) is_k is_mark c.mark_all.ensures.first low fresh_left (has_below c.intersection-fresh.result) c.loop-left.invariant.0.apart)
+          (level_old old new fresh left d k (k + 1) is_k is_mark c.mark_all.ensures.first low fresh_left (has_below c.intersection-fresh.result) c.loop-left.invariant.0.apart),
+      (λ x l. omega (arith, low_new old new fresh left d k (k + 1) is_k is_mark c.mark_all.ensures.first low fresh_left (has_below c.intersection-fresh.result) c.loop-left.invariant.0.apart x l)),
+      c.mark_all.ensures.rest ∙ c.loop-left.invariant.2,
     )
 
 pub returns : goal.returns

@@ -8,7 +8,7 @@ pub loop-a-preserved : goal.loop-a-preserved
 loop-a-preserved c = (
   c.loop-a.invariant.0,
   λ x y h. elim (cases_eq x c.loop-a.a) [
-    | inl m ↦ ap (λ z. adj c.note-shortfall.new.missing z y) m ∙ sym (c.row.ensures y) ∙ c.in-default.ensures y
+    | inl m ↦ ap (λ z. adj c.note_shortfall.new.missing z y) m ∙ sym (c.row.ensures y) ∙ c.in_default.ensures y
     | inr d ↦ c.loop-a.invariant.1 x y (omega arith)
   ],
   c.loop-a.invariant.2,
@@ -20,7 +20,7 @@ search-preserved c = (
     | inl m ↦
         let t = subst (λ v. Shortfall (adj c.args.rows.now) v a b) m s in
         let l = c.requires.1.within _ a t.left.0 in
-        both_ways _ (c.loop-a.invariant.1 a b (omega arith)) ((c.note-shortfall.ensures a b).1 t)
+        both_ways _ (c.loop-a.invariant.1 a b (omega arith)) ((c.note_shortfall.ensures a b).1 t)
     | inr d ↦ c.loop-a.invariant.0 x (omega arith) a b s
   ],
   c.loop-a.invariant.2,

@@ -28,7 +28,7 @@ unreachable-requires c =
     let h = c.requires.1.1.1 in
     let layer = marked_level c.args.marks.now (m - 1) (m - 1 + 1) (has c.marked-layer.result) (omega arith) c.marked-layer.ensures in
     let y = h.back (m - 1) c.loop-e.x (omega arith) (subst (λ k. level c.args.marks.now k c.loop-e.x ≡ true) e c.loop-e.invariant.4) in
-    both_ways _ (c.in-default.ensures y.0)
+    both_ways _ (c.in_default.ensures y.0)
     (c.intersection.ensures y.0
     ∙ and_from _ _ (c.row.ensures y.0 ∙ c.requires.1.1.0.symmetric _ _ y.2) (layer y.0 ∙ y.1))
 

@@ -38,4 +38,4 @@ loop-v-preserved c =
 pub returns : goal.returns
 returns c =
     finish (adj c.args.rows.now) (has c.args.within) (has c.loop-v.seen) (has c.loop-v.todo) c.args.c c.loop-v.invariant
-    c.in-default.ensures
+    c.in_default.ensures

@@ -9,11 +9,11 @@ pub loop-k-init : goal.loop-k-init
 unfolding size
 loop-k-init c = (refl, omega arith)
 
-pub overflow-cast-total : goal.overflow-cast-total
-overflow-cast-total c = omega (arith, ones-le 64 (word c.args.self.words c.loop-k.k) (omega arith))
+pub overflow_cast-total : goal.overflow_cast-total
+overflow_cast-total c = omega (arith, ones-le 64 (word c.args.self.words c.loop-k.k) (omega arith))
 
-pub overflow-add-total : goal.overflow-add-total
-overflow-add-total c = omega (arith, c.loop-k.invariant.1, ones-le 64 (word c.args.self.words c.loop-k.k) (omega arith))
+pub overflow_add-total : goal.overflow_add-total
+overflow_add-total c = omega (arith, c.loop-k.invariant.1, ones-le 64 (word c.args.self.words c.loop-k.k) (omega arith))
 
 pub loop-k-preserved : goal.loop-k-preserved
 loop-k-preserved c = (

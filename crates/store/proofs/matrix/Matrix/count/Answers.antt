@@ -4,8 +4,8 @@ use Rattle.store.specs.MatrixLaws.{row_most, size_most}
 use Rattle.store.proofs.Counts.{pairs_more}
 use Rattle.store.proofs.matrix.Matrix.count.Goals as goal
 
-pub overflow-add-total : goal.overflow-add-total
-overflow-add-total c =
+pub overflow_add-total : goal.overflow_add-total
+overflow_add-total c =
     let most = size_most (length c.args.self.now.area.now) c.args.self.now.n in
     let row = row_most (net_of c.args.self.now).mark c.args.mark c.loop-b.b c.loop-b.b in
     omega (arith, c.loop-b.invariant.1)

@@ -2,7 +2,7 @@ use Rattle.std.proofs.Common.{sym, ◌∙◌, arith}
 use Rattle.store.specs.Matrices.{net_of}
 use Rattle.store.proofs.Counts.{row_hit, row_miss}
 use Rattle.store.proofs.matrix.Matrix.count_row.Goals as goal
-use Rattle.store.proofs.matrix.Matrix.count_row.Goals.{then-pair-mark-mark, else-pair-mark-mark}
+use Rattle.store.proofs.matrix.Matrix.count_row.Goals.{then-pair_mark-mark, else-pair_mark-mark}
 
 pub loop-a-preserved : goal.loop-a-preserved
 loop-a-preserved c =
@@ -10,7 +10,7 @@ loop-a-preserved c =
     let m = c.args.mark in
     let b = c.args.b in
     let a = c.loop-a.a in
-    elim c.if-pair-mark-mark.branch [
-      | then-pair-mark-mark w ↦ (omega (arith, w.total-is, c.loop-a.invariant.0, row_hit mark m b a (sym c.pair-mark.ensures ∙ w.if-pair-mark-mark.true)), omega (arith, w.total-is, c.loop-a.invariant.1))
-      | else-pair-mark-mark w ↦ (omega (arith, w.total-is, c.loop-a.invariant.0, row_miss mark m b a (λ e. w.if-pair-mark-mark.false (c.pair-mark.ensures ∙ e))), omega (arith, w.total-is, c.loop-a.invariant.1))
+    elim c.if-pair_mark-mark.branch [
+      | then-pair_mark-mark w ↦ (omega (arith, w.total-is, c.loop-a.invariant.0, row_hit mark m b a (sym c.pair_mark.ensures ∙ w.if-pair_mark-mark.true)), omega (arith, w.total-is, c.loop-a.invariant.1))
+      | else-pair_mark-mark w ↦ (omega (arith, w.total-is, c.loop-a.invariant.0, row_miss mark m b a (λ e. w.if-pair_mark-mark.false (c.pair_mark.ensures ∙ e))), omega (arith, w.total-is, c.loop-a.invariant.1))
     ]

@@ -7,22 +7,22 @@ use Rattle.store.proofs.matrix.Matrix.make.Goals as goal
 
 pub wipe-requires : goal.wipe-requires
 wipe-requires c =
-    let sets = c.in-ok-set-size.ensures.sets-size in
+    let sets = c.in_ok-set_size.ensures.sets_size in
     let old = c.args.self.now.area.now in
     omega (arith, (size_fits c.args.n (length old) sets.0).long, ap length sets.1)
 
 pub returns : goal.returns
 returns c =
-    let sets = c.in-ok-set-size.ensures in
+    let sets = c.in_ok-set_size.ensures in
     let old = c.args.self.now.area.now in
-    let fits = size_fits c.args.n (length old) sets.sets-size.0 in
-    let bytes : c.wipe.new.area ≡ wiped old = c.wipe.ensures ∙ ap wiped sets.sets-size.1 in
+    let fits = size_fits c.args.n (length old) sets.sets_size.0 in
+    let bytes : c.wipe.new.area ≡ wiped old = c.wipe.ensures ∙ ap wiped sets.sets_size.1 in
     record {
       makes = (
-        sets.sets-size.0,
+        sets.sets_size.0,
         bytes,
-        sets.sets-size.2,
-        ap₂ matrix_net bytes sets.sets-size.2 ∙ wiped_net old c.args.n fits.long fits.some fits.most,
+        sets.sets_size.2,
+        ap₂ matrix_net bytes sets.sets_size.2 ∙ wiped_net old c.args.n fits.long fits.some fits.most,
       );
       same_area = sets.same_area;
     }

@@ -7,6 +7,6 @@ pub returns : goal.returns
 returns c =
     let bytes = c.args.self.now.area.now in
     record {
-      sets-size = (search rules, refl, refl, ap (λ s. counted s (matrix_mark bytes s)) (size_is (length bytes) c.args.n (omega arith) (omega arith) (omega arith)));
+      sets_size = (search rules, refl, refl, ap (λ s. counted s (matrix_mark bytes s)) (size_is (length bytes) c.args.n (omega arith) (omega arith) (omega arith)));
       same_area = refl;
     }

@@ -10,7 +10,7 @@ pub raise-requires : goal.raise-requires
 raise-requires c =
     let len = length c.args.self.now.area.now in
     let most = size_most len c.args.self.now.n in
-    let two = two_stations (net_of c.args.self.now).size c.args.u c.args.v c.in-ok-check-pair.ensures in
+    let two = two_stations (net_of c.args.self.now).size c.args.u c.args.v c.in_ok-check_pair.ensures in
     let ne = two.differ in
     (size_two len c.args.self.now.n (omega arith), (omega arith, omega arith))
 
@@ -18,7 +18,7 @@ pub raise-requires-2 : goal.raise-requires-2
 raise-requires-2 c =
     let len = length c.args.self.now.area.now in
     let most = size_most len c.args.self.now.n in
-    let two = two_stations (net_of c.args.self.now).size c.args.u c.args.v c.in-ok-check-pair.ensures in
+    let two = two_stations (net_of c.args.self.now).size c.args.u c.args.v c.in_ok-check_pair.ensures in
     let ne = two.differ in
     let long = size_two len c.args.self.now.n (omega arith) in
     (omega arith, (omega arith, omega arith))
@@ -28,12 +28,12 @@ returns c =
     let old = c.args.self.now.area.now in
     let u = c.args.u in
     let v = c.args.v in
-    let two = two_stations (net_of c.args.self.now).size c.args.u c.args.v c.in-ok-check-pair.ensures in
+    let two = two_stations (net_of c.args.self.now).size c.args.u c.args.v c.in_ok-check_pair.ensures in
     let ne = two.differ in
     let bytes : c.raise-2.new.area ≡ raised (raised old u v) v u = c.raise-2.ensures ∙ ap (λ x. raised x v u) c.raise.ensures in
     record {
       ties = (
-        c.in-ok-check-pair.ensures,
+        c.in_ok-check_pair.ensures,
         bytes,
         refl,
         ap (λ x. matrix_net x c.args.self.now.n) bytes

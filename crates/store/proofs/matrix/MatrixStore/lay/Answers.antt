@@ -10,7 +10,7 @@ pub raise-requires : goal.raise-requires
 raise-requires c =
     let len = length c.args.self.now.area.now in
     let most = size_most len c.args.self.now.n in
-    let two = two_stations (net_of c.args.self.now).size c.args.u c.args.v c.in-ok-check-pair.ensures in
+    let two = two_stations (net_of c.args.self.now).size c.args.u c.args.v c.in_ok-check_pair.ensures in
     let ne = two.differ in
     (size_two len c.args.self.now.n (omega arith), (omega arith, omega arith))
 
@@ -18,7 +18,7 @@ pub lower-requires : goal.lower-requires
 lower-requires c =
     let len = length c.args.self.now.area.now in
     let most = size_most len c.args.self.now.n in
-    let two = two_stations (net_of c.args.self.now).size c.args.u c.args.v c.in-ok-check-pair.ensures in
+    let two = two_stations (net_of c.args.self.now).size c.args.u c.args.v c.in_ok-check_pair.ensures in
     let ne = two.differ in
     let long = size_two len c.args.self.now.n (omega arith) in
     (omega arith, (omega arith, omega arith))
@@ -29,12 +29,12 @@ returns c =
     let n = c.args.self.now.n in
     let u = c.args.u in
     let v = c.args.v in
-    let two = two_stations (net_of c.args.self.now).size c.args.u c.args.v c.in-ok-check-pair.ensures in
+    let two = two_stations (net_of c.args.self.now).size c.args.u c.args.v c.in_ok-check_pair.ensures in
     let ne = two.differ in
     let free : (net_of c.args.self.now).mark u v ≡ 0 = omega arith in
     let bytes : c.lower.new.area ≡ lowered (raised old (min u v) (max u v)) (max u v) (min u v) =
-    c.lower.ensures ∙ ap (λ x. lowered x c.max-upper-station.result c.min-lower-station.result) c.raise.ensures
-    ∙ ap₂ (λ lo hi. lowered (raised old lo hi) hi lo) c.min-lower-station.ensures c.max-upper-station.ensures in
+    c.lower.ensures ∙ ap (λ x. lowered x c.max-upper_station.result c.min-lower_station.result) c.raise.ensures
+    ∙ ap₂ (λ lo hi. lowered (raised old lo hi) hi lo) c.min-lower_station.ensures c.max-upper_station.ensures in
     record {
       lays = (
         free_allowed old n u v (omega arith) (omega arith) ne free,
