@@ -27,8 +27,8 @@ pub fn search<S: Store, L: Label + Copy>(
     labels: &mut [L],
     strip: &mut [u8],
 ) -> Result<(), Refusal>
-    ensures searches { Searches L.Label.blank L.Label.raised L.Label.less (meaning store.now) strip.old strip.new labels.old labels.new result }
-    ensures store_stays { meaning store.now ≡ meaning store.now }
+    ensures searches { Searches L.blank L.raised L.less (S.meaning store.now) strip.old strip.new labels.old labels.new result }
+    ensures store_stays { S.meaning store.now ≡ S.meaning store.now }
 {
     if strip.len() < 256 || labels.len() < 256 {
         return Err(Refusal::StripTooShort);
@@ -47,8 +47,8 @@ pub fn judge<S: Store, L: Label + Copy>(
     strip: &mut [u8],
     marks: &mut [u8],
 ) -> Result<Verdict, Refusal>
-    ensures judges { Judges L.Label.blank L.Label.raised L.Label.less (meaning store.now) strip.old strip.new labels.old labels.new marks.old marks.new result }
-    ensures store_stays { meaning store.now ≡ meaning store.now }
+    ensures judges { Judges L.blank L.raised L.less (S.meaning store.now) strip.old strip.new labels.old labels.new marks.old marks.new result }
+    ensures store_stays { S.meaning store.now ≡ S.meaning store.now }
 {
     if strip.len() < 256 || labels.len() < 256 || marks.len() < 256 {
         return Err(Refusal::StripTooShort);

@@ -10,7 +10,7 @@ use store::Store;
 
 // The neighbours of station a.
 fn row_of<S: Store>(store: &S, a: usize) -> StationSet
-    ensures { (b : ℕ) → has result b ≡ standing (meaning store.now) a b }
+    ensures { (b : ℕ) → has result b ≡ standing (S.meaning store.now) a b }
 {
     let mut neighbours = StationSet::empty();
     for b in 0..store.size() {
@@ -23,7 +23,7 @@ fn row_of<S: Store>(store: &S, a: usize) -> StationSet
 
 // The neighbours of every station.
 pub fn rows_of<S: Store>(store: &S) -> Rows
-    ensures { (a b : ℕ) → adj result a b ≡ standing (meaning store.now) a b }
+    ensures { (a b : ℕ) → adj result a b ≡ standing (S.meaning store.now) a b }
 {
     let mut rows = [StationSet::EMPTY; 256];
     clear(&mut rows);

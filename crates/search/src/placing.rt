@@ -12,7 +12,7 @@ use sets::{Rows, StationSet};
 // The first n labels are blank again.
 fn reset<L: Label + Copy>(labels: &mut [L], n: usize)
     requires { n ≤ length labels.old }
-    ensures { Blanked blank n labels.old labels.new }
+    ensures { Blanked L.blank n labels.old labels.new }
 {
     for v in 0..n {
         labels[v] = L::new_blank();
@@ -22,7 +22,7 @@ fn reset<L: Label + Copy>(labels: &mut [L], n: usize)
 // Whether no label of the set exceeds that of v.
 fn is_unexceeded<L: Label + Copy>(labels: &[L], among: StationSet, v: u8) -> bool
     requires { 256 ≤ length labels.now }
-    ensures { elim result [ true ↦ Unexceeded less labels.now (has among) v | false ↦ Exceeded less labels.now (has among) v ] }
+    ensures { elim result [ true ↦ Unexceeded L.less labels.now (has among) v | false ↦ Exceeded L.less labels.now (has among) v ] }
 {
     let mut left = among;
     while let Some(k) = left.first() {
@@ -37,7 +37,7 @@ fn is_unexceeded<L: Label + Copy>(labels: &[L], among: StationSet, v: u8) -> boo
 // The lowest-numbered station of the set whose label no label of the set exceeds.
 fn pick<L: Label + Copy>(labels: &[L], among: StationSet) -> u8
     requires { (256 ≤ length labels.now) × (((x : ℕ) × In among x)) }
-    ensures { Picked less labels.now (has among) result }
+    ensures { Picked L.less labels.now (has among) result }
 {
     let mut left = among;
     while let Some(v) = left.first() {
@@ -52,7 +52,7 @@ fn pick<L: Label + Copy>(labels: &[L], among: StationSet) -> u8
 // Raises the label of each station of the set by the position.
 fn raise_all<L: Label + Copy>(labels: &mut [L], which: StationSet, position: u8)
     requires { 256 ≤ length labels.old }
-    ensures { RaisedAt raised position (has which) labels.old labels.new }
+    ensures { RaisedAt L.raised position (has which) labels.old labels.new }
 {
     let mut left = which;
     while let Some(v) = left.first() {
@@ -66,7 +66,7 @@ fn raise_all<L: Label + Copy>(labels: &mut [L], which: StationSet, position: u8)
 // the first n entries are the order.
 pub(crate) fn place_all<L: Label + Copy>(rows: &Rows, n: usize, labels: &mut [L]) -> [u8; 256]
     requires { (n ≤ 256) × ((256 ≤ length labels.old) × (Simple n (adj rows.now))) }
-    ensures { SearchMade blank raised less n (adj rows.now) (take n result) labels.old labels.new }
+    ensures { SearchMade L.blank L.raised L.less n (adj rows.now) (take n result) labels.old labels.new }
 {
     reset(labels, n);
     let mut order = [0; 256];

@@ -9,13 +9,13 @@ returns-then-y-end c = record { placed = tt; read = sym (t_many c.args.book.now 
 pub returns-in_err-p : goal.returns-in_err-p
 returns-in_err-p c =
     let q = t_names c.args.book.now c.args.at c.args.w c.args.end c.piece_end-x.result c.piece_end-y.result (λ e. omega arith) c.piece_end-x.ensures (λ e. omega arith) c.piece_end-y.ensures (omega arith) (λ e. omega arith) (λ e. omega arith) (omega arith) in
-    let p = err_from_is_err_and c.from-residual.result c.from-residual.ensures.1 in
+    let p = err_from_is_err_and c.from_residual.result c.from_residual.ensures.1 in
     rw (p.1, p.2) (record { placed = tt; read = sym (q ∙ unless_some _ _ _ c.in_err-p.ensures) })
 
 pub returns-in_err-q : goal.returns-in_err-q
 returns-in_err-q c =
     let q = t_names c.args.book.now c.args.at c.args.w c.args.end c.piece_end-x.result c.piece_end-y.result (λ e. omega arith) c.piece_end-x.ensures (λ e. omega arith) c.piece_end-y.ensures (omega arith) (λ e. omega arith) (λ e. omega arith) (omega arith) in
-    let p = err_from_is_err_and c.from-residual-in_err-q.result c.from-residual-in_err-q.ensures.1 in
+    let p = err_from_is_err_and c.from_residual-in_err-q.result c.from_residual-in_err-q.ensures.1 in
     rw (p.1, p.2) (record { placed = tt; read = sym (q ∙ unless_none _ _ c.in_ok-p.ensures.1 ∙ unless_some _ _ _ c.in_err-q.ensures) })
 
 pub returns : goal.returns

@@ -7,13 +7,13 @@ use Rattle.book.proofs.reader.next_line.Goals as goal
 
 pub returns-in_err-l : goal.returns-in_err-l
 returns-in_err-l c =
-    let p = err_from_is_err_and c.from-residual.result c.from-residual.ensures.1 in
+    let p = err_from_is_err_and c.from_residual.result c.from_residual.ensures.1 in
     let h = c.in_err-l.ensures in
     rw (p.1, p.2) (λ above s. misshaped_stops c.args.book.now c.args.at c.args.line h.0.0 _ _ h.0.1 (omega arith) h.1 above)
 
 pub returns-in_err-tie : goal.returns-in_err-tie
 returns-in_err-tie c =
-    let p = err_from_is_err_and c.from-residual-in_err-tie.result c.from-residual-in_err-tie.ensures.1 in
+    let p = err_from_is_err_and c.from_residual-in_err-tie.result c.from_residual-in_err-tie.ensures.1 in
     let h = c.in_err-tie.ensures in
     let shaped = c.in_ok-l.ensures.1 in
     rw (p.1, p.2) (λ above s. shape_stops c.args.book.now c.args.at c.args.line c.in_ok-l.ensures.0 shaped.ends (λ e. omega (arith, shaped.newline)) (names_in c.args.book.now c.args.names.now) (shape_of c.in_ok-l.l) _ shaped.shape h.0 h.1 above s)

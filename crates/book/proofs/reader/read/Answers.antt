@@ -8,7 +8,7 @@ use Rattle.book.proofs.Networks.{networked}
 use Rattle.book.proofs.reader.read.Goals as goal
 
 -- the area has its 8,192 bytes once the first `make` is passed
-long : (c : goal.After-read_book-arg·1) → 8192 ≤ length (bytes_of c.args.matrix.now)
+long : (c : goal.After-read_book-arg-1) → 8192 ≤ length (bytes_of c.args.matrix.now)
 long c = (size_fits 256 (length (bytes_of c.args.matrix.now)) c.in_ok-make.ensures.makes.0).long
 
 pub read_book-requires : goal.read_book-requires
@@ -16,8 +16,8 @@ read_book-requires c =
     let made = c.in_ok-make.ensures.makes in
     ready c.args.matrix.now c.make.new.self (long c) made.1 made.2
 
-pub returns-in_err-set_size : goal.returns-in_err-set_size
-returns-in_err-set_size c =
+pub returns-in_err-set_size-in-Ok : goal.returns-in_err-set_size-in-Ok
+returns-in_err-set_size-in-Ok c =
     let old = c.args.matrix.now in
     let made = c.in_ok-make.ensures.makes in
     let wide = (size_fits 256 (length (bytes_of old)) made.0).long in
@@ -25,39 +25,39 @@ returns-in_err-set_size c =
     let far = still_beyond old c.make.new.self c.read_book.new.matrix wide made.1 done.5 in
     let net = networked c.args.book.now _ _ (reading_book c.args.book.now done.0 done.1) in
     let count = count_is c.args.book.now c.in-Ok.names c.make.new.self c.read_book.new.matrix done in
-    let refused = c.in_err-set_size.ensures.sets_size.0 in
+    let refused = c.in_err-set_size-in-Ok.ensures.sets_size.0 in
     absurd (number_some _ (refused ∙ size_passes c.count.result (length (bytes_of c.read_book.new.matrix)) (omega (arith, net.some)) (omega (arith, net.few)) (omega (arith, far.long))))
 
-pub returns-in_err-make-2 : goal.returns-in_err-make-2
-returns-in_err-make-2 c =
+pub returns-in_err-make-in-Err : goal.returns-in_err-make-in-Err
+returns-in_err-make-in-Err c =
     let old = c.args.matrix.now in
     let made = c.in_ok-make.ensures.makes in
     let wide = (size_fits 256 (length (bytes_of old)) made.0).long in
     let done = c.in-Err.ensures.done in
     let far = still_beyond old c.make.new.self c.read_book.new.matrix wide made.1 done.1 in
     let law = matrix_lawful (bytes_of old) old.n in
-    let refused = c.in_err-make-2.ensures.makes.0 in
+    let refused = c.in_err-make-in-Err.ensures.makes.0 in
     absurd (number_some _ (refused ∙ size_passes c.size-size.result (length (bytes_of c.read_book.new.matrix)) (omega (arith, law.some)) (omega (arith, law.most)) (omega (arith, far.long))))
 
-pub returns-in_ok-set_size : goal.returns-in_ok-set_size
-returns-in_ok-set_size c =
+pub returns-in_ok-set_size-in-Ok : goal.returns-in_ok-set_size-in-Ok
+returns-in_ok-set_size-in-Ok c =
     let old = c.args.matrix.now in
     let made = c.in_ok-make.ensures.makes in
     let wide = (size_fits 256 (length (bytes_of old)) made.0).long in
     let done = c.in-Ok.ensures in
-    let sets = c.in_ok-set_size.ensures in
+    let sets = c.in_ok-set_size-in-Ok.ensures in
     record {
       reads = (wide, accepted c.args.book.now c.in-Ok.names old c.make.new.self c.read_book.new.matrix c.set_size.new.self wide made.1 done.done c.count.result c.count.ensures sets.sets_size);
       same_area = sets.same_area ∙ done.same_area ∙ c.in_ok-make.ensures.same_area;
     }
 
-pub returns-in_ok-make-2 : goal.returns-in_ok-make-2
-returns-in_ok-make-2 c =
+pub returns-in_ok-make-in-Err : goal.returns-in_ok-make-in-Err
+returns-in_ok-make-in-Err c =
     let old = c.args.matrix.now in
     let made = c.in_ok-make.ensures.makes in
     let wide = (size_fits 256 (length (bytes_of old)) made.0).long in
     let done = c.in-Err.ensures in
-    let again = c.in_ok-make-2.ensures in
+    let again = c.in_ok-make-in-Err.ensures in
     record {
       reads = (wide, rejected c.args.book.now c.in-Err.fault old c.make.new.self c.read_book.new.matrix c.make-in-Err.new.self wide made.1 done.done c.size-size.result c.size-size.ensures again.makes);
       same_area = again.same_area ∙ done.same_area ∙ c.in_ok-make.ensures.same_area;

@@ -10,7 +10,7 @@ use Rattle.search.specs.Strips.{zeroed}
 use Rattle.search.proofs.Standing.{standing_simple, moved}
 use Rattle.search.proofs.Verdicts.{not_chordal, chordal_says, ring_says, zeroed_same}
 use Rattle.search.proofs.judging.judge.Goals as goal
-use Rattle.search.proofs.judging.judge.Goals.{After-rows_of-rows, After-place_all-order, at·place_all-order-requires, at·returns-then-is_perfect, at·find_ring-length-requires, at·returns}
+use Rattle.search.proofs.judging.judge.Goals.{After-rows_of-rows, After-place_all-order, at-place_all-order-requires, at-returns-then-is_perfect, at-find_ring-length-requires, at-returns}
 
 few : (g : _) (c : After-rows_of-rows g) → c.size-n.result ≤ 256
 few g c = omega (arith, c.size-n.ensures, (g.S.Store.lawful c.args.store.now).most)
@@ -22,7 +22,7 @@ simple g c =
     (standing_simple net (g.S.Store.lawful c.args.store.now))
 
 pub place_all-order-requires : goal.place_all-order-requires
-place_all-order-requires g c = let p = (at·place_all-order-requires g c).After-rows_of-rows in (few g p, (omega arith, simple g p))
+place_all-order-requires g c = let p = (at-place_all-order-requires g c).After-rows_of-rows in (few g p, (omega arith, simple g p))
 
 -- the labels are those of the search on the standing network
 made :
@@ -40,7 +40,7 @@ made g c =
 pub returns-then-is_perfect : goal.returns-then-is_perfect
 returns-then-is_perfect g c =
     let net = g.S.Store.meaning c.args.store.now in
-    let p = at·returns-then-is_perfect g c in
+    let p = at-returns-then-is_perfect g c in
     let order = take c.size-n.result c.place_all-order.result in
     let e : zeroed c.over-guard.result.strip.now ≡ zeroed c.args.marks.now = ap zeroed c.over-guard.ensures.bytes in
     let says = chordal_says c.args.strip.now c.put_front.new.strip (simple g p.After-rows_of-rows) c.place_all-order.ensures.searched.order
@@ -63,7 +63,7 @@ returns-then-is_perfect g c =
 
 pub find_ring-length-requires : goal.find_ring-length-requires
 find_ring-length-requires g c =
-    let p = (at·find_ring-length-requires g c).After-rows_of-rows in (
+    let p = (at-find_ring-length-requires g c).After-rows_of-rows in (
       few g p,
       (
         omega (arith, ap length c.over-guard.ensures.bytes),
@@ -77,7 +77,7 @@ find_ring-length-requires g c =
 pub returns : goal.returns
 returns g c =
     let net = g.S.Store.meaning c.args.store.now in
-    let p = at·returns g c in
+    let p = at-returns g c in
     let order = take c.size-n.result c.place_all-order.result in
     let found = c.find_ring-length.result in
     let e : zeroed c.find_ring-length.new.marks ≡ zeroed c.args.marks.now =

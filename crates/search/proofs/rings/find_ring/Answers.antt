@@ -7,7 +7,7 @@ use Rattle.sets.specs.Rows.{adj}
 use Rattle.search.proofs.Tracing.{ring_made}
 use Rattle.search.proofs.Ways.{Passable, passable}
 use Rattle.search.proofs.rings.find_ring.Goals as goal
-use Rattle.search.proofs.rings.find_ring.Goals.{After-insert, at·mark_layers-d-requires, at·trace-requires, at·add-result, at·returns}
+use Rattle.search.proofs.rings.find_ring.Goals.{After-insert, at-mark_layers-d-requires, at-trace-requires, at-add-result, at-returns}
 
 -- vertices outside have no shortfall
 all_free : {n : ℕ} {g : Graph} → Simple n g → ((x : ℕ) → x < n → Free g x) → (x : ℕ) → Free g x
@@ -28,23 +28,23 @@ pub unreachable-requires : goal.unreachable-requires
 unreachable-requires c = c.requires.1.1.1 ((chordal_iff c.requires.1.1.0).1 (all_free c.requires.1.1.0 c.in_default.ensures))
 
 pub mark_layers-d-requires : goal.mark_layers-d-requires
-mark_layers-d-requires c = let w = way (at·mark_layers-d-requires c).After-insert in (omega arith, (w.few, (w.holds, (w.lacks, w.walk))))
+mark_layers-d-requires c = let w = way (at-mark_layers-d-requires c).After-insert in (omega arith, (w.few, (w.holds, (w.lacks, w.walk))))
 
 pub trace-requires : goal.trace-requires
 trace-requires c =
-    let w = way (at·trace-requires c).After-insert in
+    let w = way (at-trace-requires c).After-insert in
     let d = c.mark_layers-d.ensures.layers.few in
     (omega arith, (omega (arith, w.few), (c.requires.1.1.0, c.mark_layers-d.ensures.layers)))
 
 pub overflow_add-result : goal.overflow_add-result
 overflow_add-result c =
-    let w = way (at·add-result c).After-insert in
+    let w = way (at-add-result c).After-insert in
     let d = c.mark_layers-d.ensures.layers.few in
     omega (arith, w.few)
 
 pub returns : goal.returns
 returns c =
-    let w = way (at·returns c).After-insert in
+    let w = way (at-returns c).After-insert in
     let d = c.mark_layers-d.ensures.layers.few in
     let e : suc (suc c.mark_layers-d.result) ≡ c.mark_layers-d.result + 2 = omega arith in
     let t = c.trace.ensures in
@@ -52,7 +52,7 @@ returns c =
       ring = (
         omega (arith, w.few),
         subst (λ k. Ring c.args.n (adj c.args.rows.now) (take k c.trace.new.ring)) e
-            (ring_made c.requires.1.1.0 (lacking (at·returns c).After-insert) (has c.insert.new.self) w.inside c.mark_layers-d.ensures.layers t
+            (ring_made c.requires.1.1.0 (lacking (at-returns c).After-insert) (has c.insert.new.self) w.inside c.mark_layers-d.ensures.layers t
             (t.head ∙ refl) (omega (arith, w.few))),
       );
       rest = c.mark_layers-d.ensures.rest;
