@@ -7,7 +7,7 @@ use Rattle.sets.specs.Rows.{adj}
 use Rattle.search.proofs.Tracing.{ring_made}
 use Rattle.search.proofs.Ways.{Passable, passable}
 use Rattle.search.proofs.rings.find_ring.Goals as goal
-use Rattle.search.proofs.rings.find_ring.Goals.{After-insert, at-mark_layers-d-requires, at-trace-requires, at-add-result, at-returns}
+use Rattle.search.proofs.rings.find_ring.Goals.{After-insert, at-mark_layers-d-requires, at-trace-requires, at-overflow_add-result, at-returns}
 
 -- vertices outside have no shortfall
 all_free : {n : ℕ} {g : Graph} → Simple n g → ((x : ℕ) → x < n → Free g x) → (x : ℕ) → Free g x
@@ -38,7 +38,7 @@ trace-requires c =
 
 pub overflow_add-result : goal.overflow_add-result
 overflow_add-result c =
-    let w = way (at-add-result c).After-insert in
+    let w = way (at-overflow_add-result c).After-insert in
     let d = c.mark_layers-d.ensures.layers.few in
     omega (arith, w.few)
 
