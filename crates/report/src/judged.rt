@@ -18,7 +18,7 @@ pub fn judgement<L: Label + Copy>(
     marks: &mut [u8],
     out: &mut [u8],
 ) -> Result<usize, Refusal>
-    ensures { Judgements blank raised less book.now area.old area.new labels.old labels.new strip.old strip.new marks.old marks.new out.old out.new result }
+    ensures { Judgements L.blank L.raised L.less book.now area.old area.new labels.old labels.new strip.old strip.new marks.old marks.new out.old out.new result }
 {
     if area.len() < 8192 || out.len() < 65536 {
         return Err(Refusal::AreaTooShort);

@@ -5,21 +5,21 @@ use Rattle.report.proofs.judged.judgement.Goals as goal
 
 pub write_verdict-requires : goal.write_verdict-requires
 write_verdict-requires g c =
-    let j = c.in_ok-verdict.ensures.judges in
+    let j = c.in_ok-verdict-in-Ok.ensures.judges in
     let p = judged_named g.L.Label.blank g.L.Label.raised g.L.Label.less c.in-Ok.ensures.reads.1 c.args.labels.now c.judge.new.labels
-    c.args.strip.now c.judge.new.strip c.in_ok-verdict.verdict j.4 in
+    c.args.strip.now c.judge.new.strip c.in_ok-verdict-in-Ok.verdict j.4 in
     (omega arith, (omega arith, (p.0, p.1)))
 
-pub returns-in_ok-verdict : goal.returns-in_ok-verdict
-returns-in_ok-verdict g c =
-    let j = c.in_ok-verdict.ensures.judges in (
+pub returns-in_ok-verdict-in-Ok : goal.returns-in_ok-verdict-in-Ok
+returns-in_ok-verdict-in-Ok g c =
+    let j = c.in_ok-verdict-in-Ok.ensures.judges in (
       (omega arith, omega arith),
       omega arith,
       omega arith,
       omega arith,
       judged_wrote g.L.Label.blank g.L.Label.raised g.L.Label.less c.in-Ok.ensures.reads.1 c.args.area.now _ c.args.labels.now
           c.judge.new.labels c.args.strip.now c.judge.new.strip c.args.marks.now c.judge.new.marks c.over-matrix.ensures.bytes (search rules)
-          j.3 c.in_ok-verdict.verdict c.args.out.now _ _ j.4 c.write_verdict.ensures,
+          j.3 c.in_ok-verdict-in-Ok.verdict c.args.out.now _ _ j.4 c.write_verdict.ensures,
     )
 
 pub returns-in-Book : goal.returns-in-Book
