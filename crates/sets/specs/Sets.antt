@@ -1,5 +1,5 @@
 -- A set of stations below 256, by the bits of four words.
-use Rattle.std.specs.Prelude.{◌≡◌, ℕ, ◌*◌, ◌/◌, ◌%◌, ◌^◌, ◌<◌, Bool, true, false, ◌&&◌, [], set, ◌==◌, bit_or, nat_lt, slice_index, slice_set}
+use Rattle.std.specs.Prelude.{◌≡◌, ℕ, ◌*◌, ◌/◌, ◌%◌, ◌^◌, ◌<◌, Bool, true, false, ◌&&◌, [], ◌==◌, bit_or, nat_lt, slice_index, slice_set}
 use Rattle.graph.specs.Pairs.{size as counted}
 use Rattle.sets.specs.declared.station_set.StationSet.{StationSet}
 

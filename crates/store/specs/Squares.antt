@@ -1,5 +1,5 @@
 -- A square of 256 by 256 bits in the first 8,192 bytes of an area: bit v % 8 of the byte u * 32 + v / 8.
-use Rattle.std.specs.Prelude.{ℕ, ◌+◌, ◌-◌, ◌*◌, ◌/◌, ◌%◌, ◌^◌, List, ◌++◌, drop, set, replicate, bit_and, bit_or, slice_index, slice_set}
+use Rattle.std.specs.Prelude.{ℕ, ◌+◌, ◌-◌, ◌*◌, ◌/◌, ◌%◌, ◌^◌, List, ◌++◌, drop, replicate, bit_and, bit_or, slice_index, slice_set}
 
 -- the byte that has the bit u v
 abbrev pub place : ℕ → ℕ → ℕ
