@@ -5,7 +5,7 @@ use Rattle.std.proofs.lemmas.Bool.{cond-true, cond-false, cases_Bool, cases_eq, 
 use Rattle.book.specs.FirstFault.{Lacks}
 use Rattle.book.specs.Grammar.{Name, WellFormed}
 use Rattle.book.proofs.Entries.{Follows, SoundAfter, Entries, spell, spelled}
-use Rattle.book.specs.declared.faults.Layer.TheVariants.{Line as line-layer, Book as book-layer}
+use Rattle.book.specs.declared.faults.Layer.TheVariants.{Line as line_layer, Book as book_layer}
 use Rattle.book.specs.Faults.{Spot, Fault, fault_in, spot_at}
 use Rattle.book.specs.Reading.{Entry, station, tie, stations, found, given_read, ties_read, shape_read, entry_read, onward, lines_read, last_read, reading, words_read, line_read, Shape, gives, ties, split, next, empty, is_byte, unless, name_fault, after_s, after_t}
 use Rattle.book.proofs.LineSteps.{split_cons}
@@ -37,9 +37,9 @@ after_s_spells at p [] sh e = no_shape _ sh e
 after_s_spells at p (a ∷ b ∷ ws) sh e = no_shape _ sh e
 after_s_spells at p (a ∷ []) sh e =
     ⊎_elim
-    (λ (t : empty a ≡ true). no_shape (spot_at line-layer 23 at) sh (sym (cond-true (empty a) (Err (spot_at line-layer 23 at)) (unless (name_fault p a) (Ok (gives a p))) t) ∙ e))
+    (λ (t : empty a ≡ true). no_shape (spot_at line_layer 23 at) sh (sym (cond-true (empty a) (Err (spot_at line_layer 23 at)) (unless (name_fault p a) (Ok (gives a p))) t) ∙ e))
     (λ (t : empty a ≡ false).
-    let u = unless_ok (name_fault p a) (Ok (gives a p)) sh (sym (cond-false (empty a) (Err (spot_at line-layer 23 at)) (unless (name_fault p a) (Ok (gives a p))) t) ∙ e) in
+    let u = unless_ok (name_fault p a) (Ok (gives a p)) sh (sym (cond-false (empty a) (Err (spot_at line_layer 23 at)) (unless (name_fault p a) (Ok (gives a p))) t) ∙ e) in
     let v = u.1 in
     let q : gives a p ≡ sh = cc in
     subst (λ s. Spells s (83 ∷ 32 ∷ a)) q (refl, fault_none p a u.0 t))
@@ -54,9 +54,9 @@ after_t_spells at p (a ∷ b ∷ []) sh e =
     let n = next p a in
     let r : Result Shape Spot = unless (name_fault p a) (unless (name_fault n b) (Ok (ties a p b n))) in
     ⊎_elim
-    (λ (t : (empty a || empty b) ≡ true). no_shape (spot_at line-layer 23 at) sh (sym (cond-true (empty a || empty b) (Err (spot_at line-layer 23 at)) r t) ∙ e))
+    (λ (t : (empty a || empty b) ≡ true). no_shape (spot_at line_layer 23 at) sh (sym (cond-true (empty a || empty b) (Err (spot_at line_layer 23 at)) r t) ∙ e))
     (λ (t : (empty a || empty b) ≡ false).
-    let u = unless_ok (name_fault p a) (unless (name_fault n b) (Ok (ties a p b n))) sh (sym (cond-false (empty a || empty b) (Err (spot_at line-layer 23 at)) r t) ∙ e) in
+    let u = unless_ok (name_fault p a) (unless (name_fault n b) (Ok (ties a p b n))) sh (sym (cond-false (empty a || empty b) (Err (spot_at line_layer 23 at)) r t) ∙ e) in
     let v = unless_ok (name_fault n b) (Ok (ties a p b n)) sh u.1 in
     let both = or_parts (empty a) (empty b) t in
     let w = v.1 in
@@ -70,14 +70,14 @@ words_spelled at [] sh e = no_shape _ sh e
 words_spelled at (w ∷ ws) sh e =
     let S = after_s at (next at w) ws in
     let T = after_t at (next at w) ws in
-    let N : Result Shape Spot = Err (spot_at line-layer 22 at) in
+    let N : Result Shape Spot = Err (spot_at line_layer 22 at) in
     ⊎_elim
     (λ (s : is_byte 83 w ≡ true). subst (λ x. Spells sh (unsplit 32 (x ∷ ws))) (sym (is_byte_lem 83 w s)) (after_s_spells at (next at w) ws sh (sym (cond-true (is_byte 83 w) S (cond (is_byte 84 w) T N) s) ∙ e)))
     (λ (s : is_byte 83 w ≡ false).
     let f = sym (cond-false (is_byte 83 w) S (cond (is_byte 84 w) T N) s) ∙ e in
     ⊎_elim
     (λ (t : is_byte 84 w ≡ true). subst (λ x. Spells sh (unsplit 32 (x ∷ ws))) (sym (is_byte_lem 84 w t)) (after_t_spells at (next at w) ws sh (sym (cond-true (is_byte 84 w) T N t) ∙ f)))
-    (λ (t : is_byte 84 w ≡ false). no_shape (spot_at line-layer 22 at) sh (sym (cond-false (is_byte 84 w) T N t) ∙ f))
+    (λ (t : is_byte 84 w ≡ false). no_shape (spot_at line_layer 22 at) sh (sym (cond-false (is_byte 84 w) T N t) ∙ f))
     (cases_Bool (is_byte 84 w)))
     (cases_Bool (is_byte 83 w))
 
@@ -94,27 +94,27 @@ shape_follows above (gives a p) e l r s =
           (let f = sym (ap (given_read ns a p) n) ∙ r in
           ⊎_elim
           (λ (t : ltb (length ns) 256 ≡ true).
-          let g = sym (cond-true (ltb (length ns) 256) (Ok (station a)) (Err (spot_at book-layer 29 p)) t) ∙ f in
+          let g = sym (cond-true (ltb (length ns) 256) (Ok (station a)) (Err (spot_at book_layer 29 p)) t) ∙ f in
           let q : station a ≡ e = cc in
           subst (λ x. (l ++ 10 ∷ [] ≡ spell x) × Follows above x) q (ap (λ x. x ++ 10 ∷ []) s.0, (s.1, none_among 0 a ns n, ltb-true (length ns) 256 t)))
-          (λ (t : ltb (length ns) 256 ≡ false). no_shape (spot_at book-layer 29 p) e (sym (cond-false (ltb (length ns) 256) (Ok (station a)) (Err (spot_at book-layer 29 p)) t) ∙ f))
+          (λ (t : ltb (length ns) 256 ≡ false). no_shape (spot_at book_layer 29 p) e (sym (cond-false (ltb (length ns) 256) (Ok (station a)) (Err (spot_at book_layer 29 p)) t) ∙ f))
           (cases_Bool (ltb (length ns) 256)))
-      | inr k ↦ no_shape (spot_at book-layer 26 p) e (sym (ap (given_read ns a p) k.1) ∙ r)
+      | inr k ↦ no_shape (spot_at book_layer 26 p) e (sym (ap (given_read ns a p) k.1) ∙ r)
     ]
 shape_follows above (ties a p b q) e l r s =
     let ns = stations above in
     elim (found_cases (found a ns)) [
-      | inl n ↦ no_shape (spot_at book-layer 27 p) e (sym (ap (λ x. ties_read a p b q x (found b ns)) n) ∙ r)
+      | inl n ↦ no_shape (spot_at book_layer 27 p) e (sym (ap (λ x. ties_read a p b q x (found b ns)) n) ∙ r)
       | inr u ↦
           (let f = sym (ap (λ x. ties_read a p b q x (found b ns)) u.1) ∙ r in
           elim (found_cases (found b ns)) [
-            | inl n ↦ no_shape (spot_at book-layer 27 q) e (sym (ap (ties_read a p b q (Some u.0)) n) ∙ f)
+            | inl n ↦ no_shape (spot_at book_layer 27 q) e (sym (ap (ties_read a p b q (Some u.0)) n) ∙ f)
             | inr v ↦
                 (let g = sym (ap (ties_read a p b q (Some u.0)) v.1) ∙ f in
                 ⊎_elim
-                (λ (t : eqb u.0 v.0 ≡ true). no_shape (spot_at book-layer 28 q) e (sym (cond-true (eqb u.0 v.0) (Err (spot_at book-layer 28 q)) (Ok (tie a b)) t) ∙ g))
+                (λ (t : eqb u.0 v.0 ≡ true). no_shape (spot_at book_layer 28 q) e (sym (cond-true (eqb u.0 v.0) (Err (spot_at book_layer 28 q)) (Ok (tie a b)) t) ∙ g))
                 (λ (t : eqb u.0 v.0 ≡ false).
-                let h = sym (cond-false (eqb u.0 v.0) (Err (spot_at book-layer 28 q)) (Ok (tie a b)) t) ∙ g in
+                let h = sym (cond-false (eqb u.0 v.0) (Err (spot_at book_layer 28 q)) (Ok (tie a b)) t) ∙ g in
                 let z : tie a b ≡ e = cc in
                 let fa = found_at 0 a ns u.0 u.1 in
                 let fb = found_at 0 b ns v.0 v.1 in
@@ -154,10 +154,10 @@ entry_read_lem above at (station a) f =
     let p = next at (83 ∷ []) in
     ap (entry_read ns)
     (ap (λ s. words_read at ((83 ∷ []) ∷ s)) (split_only 32 a (name_lacks 32 a refl f.0.bytes))
-    ∙ cond-false (empty a) (Err (spot_at line-layer 23 at)) (unless (name_fault p a) (Ok (gives a p))) (not_empty a f.0)
+    ∙ cond-false (empty a) (Err (spot_at line_layer 23 at)) (unless (name_fault p a) (Ok (gives a p))) (not_empty a f.0)
     ∙ ap (λ o. unless o (Ok (gives a p))) (none_fault p a f.0))
     ∙ ap (given_read ns a p) (among_none a ns f.1)
-    ∙ cond-true (ltb (length ns) 256) (Ok (station a)) (Err (spot_at book-layer 29 p)) (lt-ltb (length ns) 256 f.2)
+    ∙ cond-true (ltb (length ns) 256) (Ok (station a)) (Err (spot_at book_layer 29 p)) (lt-ltb (length ns) 256 f.2)
 entry_read_lem above at (tie a b) f =
     let ns = stations above in
     let p = next at (84 ∷ []) in
@@ -169,12 +169,12 @@ entry_read_lem above at (tie a b) f =
     let differ : u.0 ≡ v.0 → ⊥ = λ d. f.4 (sym fu.3 ∙ ap (λ j. get_or ns j []) (omega (arith, fu.1, fv.1)) ∙ fv.3) in
     ap (entry_read ns)
     (ap (λ s. words_read at ((84 ∷ []) ∷ s)) (split_lacks 32 a b (name_lacks 32 a refl f.0.bytes) ∙ ap (λ s. a ∷ s) (split_only 32 b (name_lacks 32 b refl f.1.bytes)))
-    ∙ cond-false (empty a || empty b) (Err (spot_at line-layer 23 at)) (unless (name_fault p a) (unless (name_fault q b) (Ok (ties a p b q)))) (or_from (empty a) (empty b) (not_empty a f.0) (not_empty b f.1))
+    ∙ cond-false (empty a || empty b) (Err (spot_at line_layer 23 at)) (unless (name_fault p a) (unless (name_fault q b) (Ok (ties a p b q)))) (or_from (empty a) (empty b) (not_empty a f.0) (not_empty b f.1))
     ∙ ap (λ o. unless o (unless (name_fault q b) (Ok (ties a p b q)))) (none_fault p a f.0)
     ∙ ap (λ o. unless o (Ok (ties a p b q))) (none_fault q b f.1))
     ∙ ap (λ x. ties_read a p b q x (found b ns)) u.1
     ∙ ap (ties_read a p b q (Some u.0)) v.1
-    ∙ cond-false (eqb u.0 v.0) (Err (spot_at book-layer 28 q)) (Ok (tie a b)) (ne_eqb u.0 v.0 differ)
+    ∙ cond-false (eqb u.0 v.0) (Err (spot_at book_layer 28 q)) (Ok (tie a b)) (ne_eqb u.0 v.0 differ)
 
 -- all the lines
 pub entry_ok : (ns : List Name) (x : Result Shape Spot) (e : Entry) → entry_read ns x ≡ Ok e → (sh : Shape) × (x ≡ Ok sh) × (shape_read ns sh ≡ Ok e)
@@ -199,7 +199,7 @@ last_told : (above : List Entry) (at k : ℕ) (l : List ℕ) (all : List Entry) 
 last_told above at k (x ∷ l) all e = let z : ◌≡◌ {A = ℕ} 0 1 = cc in absurd (omega arith)
 last_told above at k [] all e =
     let n = length (stations above) in
-    let F : Result (List Entry) Fault = Err (fault_in 0 (spot_at book-layer 30 at)) in
+    let F : Result (List Entry) Fault = Err (fault_in 0 (spot_at book_layer 30 at)) in
     ⊎_elim
     (λ (t : eqb n 0 ≡ true). let f = sym (cond-true (eqb n 0) F (Ok above) t) ∙ e in let z : ◌≡◌ {A = ℕ} 0 1 = cc in absurd (omega arith))
     (λ (t : eqb n 0 ≡ false).
@@ -229,7 +229,7 @@ lines_told above at k l (m ∷ ls) all h =
 -- lines that sound entries spell are read as these entries
 pub lines_read_lem : (above : List Entry) (at k : ℕ) (es : List Entry) → SoundAfter above es → 1 ≤ length (stations (above ++ es)) → lines_read above at k (split 10 (spelled es)) ≡ Ok (above ++ es)
 lines_read_lem above at k [] s h =
-    let F : Result (List Entry) Fault = Err (fault_in 0 (spot_at book-layer 30 at)) in
+    let F : Result (List Entry) Fault = Err (fault_in 0 (spot_at book_layer 30 at)) in
     let n : 1 ≤ length (stations above) = subst (λ x. 1 ≤ length (stations x)) (append-nil above) h in
     cond-false (eqb (length (stations above)) 0) F (Ok above) (ne_eqb (length (stations above)) 0 (λ z. omega arith)) ∙ ap Ok (sym (append-nil above))
 lines_read_lem above at k (e ∷ es) s h =
@@ -256,12 +256,12 @@ accepts b all h r =
 
 -- a book that is not too large is read line by line
 pub reading_small : (b : List ℕ) → length b ≤ 65536 → reading b ≡ lines_read [] 0 1 (split 10 b)
-reading_small b h = cond-false (ltb 65536 (length b)) (Err (fault_in 0 (spot_at book-layer 20 (length b)))) (lines_read [] 0 1 (split 10 b)) (le-ltb 65536 (length b) h)
+reading_small b h = cond-false (ltb 65536 (length b)) (Err (fault_in 0 (spot_at book_layer 20 (length b)))) (lines_read [] 0 1 (split 10 b)) (le-ltb 65536 (length b) h)
 
 -- what is read is spelled by sound entries
 pub accepts_all : (b : List ℕ) (es : List Entry) → reading b ≡ Ok es → Entries es b
 accepts_all b es r =
-    let F : Result (List Entry) Fault = Err (fault_in 0 (spot_at book-layer 20 (length b))) in
+    let F : Result (List Entry) Fault = Err (fault_in 0 (spot_at book_layer 20 (length b))) in
     ⊎_elim
     (λ (t : ltb 65536 (length b) ≡ true). let f = sym (cond-true (ltb 65536 (length b)) F (lines_read [] 0 1 (split 10 b)) t) ∙ r in let z : ◌≡◌ {A = ℕ} 0 1 = cc in absurd (omega arith))
     (λ (t : ltb 65536 (length b) ≡ false). accepts b es (ltb-false 65536 (length b) t) (sym (cond-false (ltb 65536 (length b)) F (lines_read [] 0 1 (split 10 b)) t) ∙ r))

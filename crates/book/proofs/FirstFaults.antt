@@ -2,7 +2,7 @@
 use Rattle.std.proofs.Common.{◌≡◌, ℕ, suc, ◌+◌, ◌≤◌, true, false, eqb, ltb, ◌⊎◌, List, [], ◌∷◌, ◌++◌, length, Ok, Err, Result, sym, refl, ap, ◌∙◌, subst, inl, inr, ⊎_elim, append_assoc, arith, length-append}
 use Rattle.std.proofs.lemmas.List.{append-nil}
 use Rattle.std.proofs.lemmas.Bool.{cond-true, cond-false, cases_Bool, ltb-true, ltb-false, eqb-true}
-use Rattle.book.specs.declared.faults.Layer.TheVariants.{Line as line-layer, Book as book-layer}
+use Rattle.book.specs.declared.faults.Layer.TheVariants.{Line as line_layer, Book as book_layer}
 use Rattle.book.specs.Faults.{Spot, Fault, spot_at, fault_in}
 use Rattle.book.specs.Grammar.{Name, Lines, none}
 use Rattle.book.specs.Reading.{Entry, station, tie, stations, ties_of, next, line_read, entry_read, onward, last_read, lines_read, reading, split}
@@ -15,8 +15,8 @@ use Rattle.book.proofs.LineSteps.{split_cons}
 
 -- what is wrong after the sound lines: no station, no byte 10, or a faulty line
 data Stops (names : List Name) (at k : ℕ) (rest : List ℕ) : Fault → Type 0 where
-  ended : rest ≡ [] → length names ≡ 0 → Stops names at k rest (fault_in 0 (spot_at book-layer 30 at))
-  unended : 1 ≤ length rest → Lacks 10 rest → Stops names at k rest (fault_in k (spot_at line-layer 21 at))
+  ended : rest ≡ [] → length names ≡ 0 → Stops names at k rest (fault_in 0 (spot_at book_layer 30 at))
+  unended : 1 ≤ length rest → Lacks 10 rest → Stops names at k rest (fault_in k (spot_at line_layer 21 at))
   faulty : (line more : List ℕ) (s : Spot) → rest ≡ line ++ 10 ∷ more → Lacks 10 line → entry_read names (line_read at line) ≡ Err s → Stops names at k rest (fault_in k s)
 
 -- the same stop by equal names, place and number
@@ -52,7 +52,7 @@ last_stopped : (above : List Entry) (text : List ℕ) (at k : ℕ) (f : Fault) �
 last_stopped above (x ∷ text) at k f lacks e = subst (Stopped above (x ∷ text) at k) (same_fault {A = List Entry} _ f e) (at_once above (x ∷ text) at k _ (unended (omega arith) lacks))
 last_stopped above [] at k f lacks e =
     let n = length (stations above) in
-    let F : Result (List Entry) Fault = Err (fault_in 0 (spot_at book-layer 30 at)) in
+    let F : Result (List Entry) Fault = Err (fault_in 0 (spot_at book_layer 30 at)) in
     ⊎_elim
     (λ (t : eqb n 0 ≡ true).
     subst (Stopped above [] at k) (same_fault {A = List Entry} _ f (sym (cond-true (eqb n 0) F (Ok above) t) ∙ e)) (at_once above [] at k _ (ended refl (eqb-true n 0 t))))
@@ -108,16 +108,16 @@ no_names (n ∷ ns) e = absurd (omega arith)
 
 -- what stops the reading is the first fault
 stopped_first : (b : List ℕ) (es : List Entry) (rest : List ℕ) (f : Fault) → length b ≤ 65536 → b ≡ spelled es ++ rest → SoundAfter [] es → Stops (stations es) (0 + length (spelled es)) (1 + length es) rest f → FirstFault b f
-stopped_first b es rest f small text sound (ended empty none-given) =
+stopped_first b es rest f small text sound (ended empty none_given) =
     let whole : b ≡ spelled es = text ∙ ap (λ x. spelled es ++ x) empty ∙ append-nil (spelled es) in
     let place : length b ≡ 0 + length (spelled es) = ap length whole ∙ (let z : length (spelled es) ≡ 0 + length (spelled es) = omega arith in z) in
-    let lines = subst (λ ns. Lines (spelled es) ns (ties_of es)) (no_names (stations es) none-given) (lines_after [] es none sound) in
-    subst (λ p. FirstFault b (fault_in 0 (spot_at book-layer 30 p))) place (no_station (ties_of es) (subst (λ x. Lines x [] (ties_of es)) (sym whole) lines))
+    let lines = subst (λ ns. Lines (spelled es) ns (ties_of es)) (no_names (stations es) none_given) (lines_after [] es none sound) in
+    subst (λ p. FirstFault b (fault_in 0 (spot_at book_layer 30 p))) place (no_station (ties_of es) (subst (λ x. Lines x [] (ties_of es)) (sym whole) lines))
 stopped_first b es rest f small text sound (unended some lacks) =
     let place : length (spelled es) ≡ 0 + length (spelled es) = omega arith in
     let number : length (stations es) + length (ties_of es) + 1 ≡ 1 + length es = (let h = count_entries es in omega arith) in
-    subst (λ p. FirstFault b (fault_in (1 + length es) (spot_at line-layer 21 p))) place
-    (subst (λ k. FirstFault b (fault_in k (spot_at line-layer 21 (length (spelled es))))) number
+    subst (λ p. FirstFault b (fault_in (1 + length es) (spot_at line_layer 21 p))) place
+    (subst (λ k. FirstFault b (fault_in k (spot_at line_layer 21 (length (spelled es))))) number
     (no_newline (spelled es) rest (stations es) (ties_of es) small text (lines_after [] es none sound) some lacks))
 stopped_first b es rest f small text sound (faulty line more s cut lacks e) =
     let place : 0 + length (spelled es) ≡ length (spelled es) = omega arith in
@@ -129,7 +129,7 @@ stopped_first b es rest f small text sound (faulty line more s cut lacks e) =
 -- the reading's fault is the first
 pub reading_first : (b : List ℕ) (f : Fault) → reading b ≡ Err f → FirstFault b f
 reading_first b f e =
-    let F : Result (List Entry) Fault = Err (fault_in 0 (spot_at book-layer 20 (length b))) in
+    let F : Result (List Entry) Fault = Err (fault_in 0 (spot_at book_layer 20 (length b))) in
     let L = lines_read [] 0 1 (split 10 b) in
     ⊎_elim
     (λ (t : ltb 65536 (length b) ≡ true). subst (FirstFault b) (same_fault {A = List Entry} _ f (sym (cond-true (ltb 65536 (length b)) F L t) ∙ e)) (too_large (ltb-true 65536 (length b) t)))

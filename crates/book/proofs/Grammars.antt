@@ -1,7 +1,7 @@
 -- Sound entries and field books are the same, so the reading finds the one field book that there is.
 use Rattle.std.proofs.Common.{◌≡◌, ℕ, ◌<◌, ◌≤◌, List, [], ◌∷◌, ◌++◌, length, get_or, Ok, Err, sym, refl, ap, ◌∙◌, subst, append_assoc}
 use Rattle.std.proofs.lemmas.List.{append-nil}
-use Rattle.book.specs.Grammar.{Name, WellFormed, Among, station_line, tie_line, Lines, none, FieldBook, station as station-line, tie as tie-line}
+use Rattle.book.specs.Grammar.{Name, WellFormed, Among, station_line, tie_line, Lines, none, FieldBook, station as station_more, tie as tie_more}
 use Rattle.book.specs.Faults.{Fault}
 use Rattle.book.specs.Reading.{Entry, station, tie, stations, ties_of, reading}
 use Rattle.book.proofs.Entries.{Follows, SoundAfter, Entries, spell, spelled}
@@ -37,10 +37,10 @@ same_lines text other names others ts us p q r l = subst (λ x. Lines other othe
 lines_push : (above : List Entry) (e : Entry) → LinesOf above → Follows above e → LinesOf (above ++ e ∷ [])
 lines_push above (station a) l f =
     same_lines _ _ _ _ _ _ (sym (spelled_push above (station a))) (sym (stations_both above (station a ∷ []))) (sym (ties_push above (station a) ∙ append-nil (ties_of above)))
-    (station-line a l f.0 f.1 f.2)
+    (station_more a l f.0 f.1 f.2)
 lines_push above (tie a b) l f =
     same_lines _ _ _ _ _ _ (sym (spelled_push above (tie a b))) (sym (stations_both above (tie a b ∷ []) ∙ append-nil (stations above))) (sym (ties_push above (tie a b)))
-    (tie-line a b l f.2 f.3 f.4)
+    (tie_more a b l f.2 f.3 f.4)
 
 -- the lines of sound entries after those above
 pub lines_after : (above es : List Entry) → LinesOf above → SoundAfter above es → LinesOf (above ++ es)
@@ -70,7 +70,7 @@ among_formed names a w m = subst WellFormed m.2 (w m.0 m.1)
 -- lines are spelled by sound entries
 pub lines_spelling : {text : List ℕ} {names : List Name} {ts : List (Name × Name)} → Lines text names ts → Spelling text names ts
 lines_spelling none = record { es = []; text_is = refl; each = tt; names_are = refl; ties_are = refl }
-lines_spelling (station-line a l w new few) =
+lines_spelling (station_more a l w new few) =
     let s = lines_spelling l in
     let n = s.names_are in
     record {
@@ -80,7 +80,7 @@ lines_spelling (station-line a l w new few) =
       names_are = ap (λ x. x ++ a ∷ []) n ∙ sym (stations_both s.es (station a ∷ []));
       ties_are = s.ties_are ∙ sym (ties_push s.es (station a) ∙ append-nil (ties_of s.es));
     }
-lines_spelling (tie-line {names = names} a b l ka kb ne) =
+lines_spelling (tie_more {names = names} a b l ka kb ne) =
     let s = lines_spelling l in
     let n = s.names_are in
     let w = (kept l).formed in

@@ -1,7 +1,7 @@
 -- One line, word by word.
 use Rattle.std.proofs.Common.{◌≡◌, ℕ, ◌+◌, ◌-◌, ◌<◌, ◌≤◌, true, false, cond, eqb, List, [], ◌∷◌, length, Some, None, Ok, Err, Option, Result, refl, ap, ◌∙◌, arith, length-drop, length-take}
 use Rattle.std.proofs.lemmas.Bool.{cond-true, cond-false, eq-eqb, ne_eqb, or_from}
-use Rattle.book.specs.declared.faults.Layer.TheVariants.{Line as line-layer}
+use Rattle.book.specs.declared.faults.Layer.TheVariants.{Line as line_layer}
 use Rattle.book.specs.Faults.{Spot, spot_at}
 use Rattle.book.specs.Reading.{piece, split, led, is_byte, after_s, after_t, empty, unless, name_fault, gives, ties, next, words_read, Shape}
 use Rattle.book.specs.Shown.{rest, Ends}
@@ -38,7 +38,7 @@ rest_some c b w j ne = let q = split_cons c (piece b (w + 1) j) in (q.0, q.1, co
 
 module _ (b : List ℕ) (at w j : ℕ) where
   -- more than one word after S
-  pub s_many : (x : ℕ) → (w ≡ j → ⊥) → Ends 32 b (w + 1) j x → (x ≡ j → ⊥) → after_s at (w + 1) (rest 32 b w j) ≡ Err (spot_at line-layer 23 at)
+  pub s_many : (x : ℕ) → (w ≡ j → ⊥) → Ends 32 b (w + 1) j x → (x ≡ j → ⊥) → after_s at (w + 1) (rest 32 b w j) ≡ Err (spot_at line_layer 23 at)
   s_many x ne e nx = let q = rest_some 32 b x j nx in ap (after_s at (w + 1)) (rest_step 32 b w j x ne e ∙ ap (λ r. piece b (w + 1) x ∷ r) q.2)
 
   -- one word after S
@@ -51,7 +51,7 @@ module _ (b : List ℕ) (at w j : ℕ) where
   s_name x ne e q z h l = ap (after_s at (w + 1)) (s_one x ne e q) ∙ cond-false _ _ _ (empty_some b (w + 1) j (omega arith) l)
 
   -- more than two words after T
-  pub t_many : (x y : ℕ) → (w ≡ j → ⊥) → Ends 32 b (w + 1) j x → (x ≡ j → ⊥) → Ends 32 b (x + 1) j y → (y ≡ j → ⊥) → after_t at (w + 1) (rest 32 b w j) ≡ Err (spot_at line-layer 23 at)
+  pub t_many : (x y : ℕ) → (w ≡ j → ⊥) → Ends 32 b (w + 1) j x → (x ≡ j → ⊥) → Ends 32 b (x + 1) j y → (y ≡ j → ⊥) → after_t at (w + 1) (rest 32 b w j) ≡ Err (spot_at line_layer 23 at)
   t_many x y ne e nx f ny = let q = rest_some 32 b y j ny in ap (after_t at (w + 1)) (rest_step 32 b w j x ne e ∙ ap (λ r. piece b (w + 1) x ∷ r) (rest_step 32 b x j y nx f ∙ ap (λ r. piece b (x + 1) y ∷ r) q.2))
 
   -- two words after T

@@ -2,7 +2,7 @@
 use Rattle.std.proofs.Common.{◌≡◌, ℕ, suc, ◌+◌, ◌≤◌, ltb, List, [], ◌∷◌, ◌++◌, length, Err, Result, sym, refl, ap, ◌∙◌, subst, ap₂, append_assoc, arith, length-append}
 use Rattle.std.proofs.lemmas.List.{append-nil}
 use Rattle.std.proofs.lemmas.Bool.{cond-true, lt-ltb}
-use Rattle.book.specs.declared.faults.Layer.TheVariants.{Line as line-layer, Book as book-layer}
+use Rattle.book.specs.declared.faults.Layer.TheVariants.{Line as line_layer, Book as book_layer}
 use Rattle.book.specs.Faults.{Fault, spot_at, fault_in}
 use Rattle.book.specs.Grammar.{Name}
 use Rattle.book.specs.Reading.{Entry, station, tie, stations, next, line_read, words_read, entry_read, onward, last_read, lines_read, reading, split}
@@ -51,7 +51,7 @@ past_lines b above rest names ties l small text =
     ∙ ap₂ (λ p n. lines_read es p n (split 10 rest)) place number
 
 -- bytes after the last byte 10
-last_line : (above : List Entry) (at k : ℕ) (rest : List ℕ) → 1 ≤ length rest → last_read above at k rest ≡ Err (fault_in k (spot_at line-layer 21 at))
+last_line : (above : List Entry) (at k : ℕ) (rest : List ℕ) → 1 ≤ length rest → last_read above at k rest ≡ Err (fault_in k (spot_at line_layer 21 at))
 last_line above at k [] h = absurd (omega arith)
 last_line above at k (x ∷ rest) h = refl
 
@@ -85,4 +85,4 @@ first_read b f (no_station ties lines) =
     let l = lines_spelling lines in
     let none : l.es ≡ [] = no_lines l.es l.each (sym l.names_are) in
     let bare_book : b ≡ [] = l.text_is ∙ ap spelled none in
-    subst (λ x. reading x ≡ Err (fault_in 0 (spot_at book-layer 30 (length x)))) (sym bare_book) refl
+    subst (λ x. reading x ≡ Err (fault_in 0 (spot_at book_layer 30 (length x)))) (sym bare_book) refl

@@ -3,7 +3,7 @@ use Rattle.std.proofs.Common.{◌≡◌, ℕ, suc, ◌+◌, ◌-◌, ◌<◌, �
 use Rattle.std.proofs.lemmas.List.{append-nil, drop_more, take_more, at_drop_more}
 use Rattle.std.proofs.lemmas.Bool.{cond-true, cond-false, eq-eqb, ne_eqb}
 use Rattle.book.specs.Grammar.{name_byte}
-use Rattle.book.specs.declared.faults.Layer.TheVariants.{Word as word-layer}
+use Rattle.book.specs.declared.faults.Layer.TheVariants.{Word as word_layer}
 use Rattle.book.specs.Faults.{spot_at}
 use Rattle.book.specs.Reading.{piece, split, led, bad_spot, is_byte}
 use Rattle.book.specs.Shown.{Ends}
@@ -82,7 +82,7 @@ walked_end c b i j k w h e = record {
 }
 
 -- the scan of a name stops at a byte not allowed
-pub bad_here : (bs : List ℕ) (at i : ℕ) → i < length bs → name_byte (get_or bs i 0) ≡ false → bad_spot (at + i) (drop i bs) ≡ Some (spot_at word-layer 25 (at + i))
+pub bad_here : (bs : List ℕ) (at i : ℕ) → i < length bs → name_byte (get_or bs i 0) ≡ false → bad_spot (at + i) (drop i bs) ≡ Some (spot_at word_layer 25 (at + i))
 bad_here bs at i h e = at_drop_more (bad_spot (at + i)) bs i 0 h ∙ cond-false (name_byte (get_or bs i 0)) _ _ e
 
 -- the scan of a name passes a byte allowed

@@ -5,7 +5,7 @@ use Rattle.std.proofs.lemmas.Slice.Eq.{bytes_eq-Decides}
 use Rattle.std.proofs.lemmas.Bool.{cond-true, cond-false, cases_Bool, le-ltb, ltb-false, eq-eqb, eqb-true, ne_eqb, both_ways}
 use Rattle.book.specs.FirstFault.{Lacks}
 use Rattle.book.specs.Grammar.{Name, name_byte, AllNameBytes, WellFormed, Among}
-use Rattle.book.specs.declared.faults.Layer.TheVariants.{Word as word-layer}
+use Rattle.book.specs.declared.faults.Layer.TheVariants.{Word as word_layer}
 use Rattle.book.specs.Faults.{spot_at}
 use Rattle.book.specs.Reading.{found, found_from, split, led, empty, name_fault, bad_spot}
 use Rattle.book.proofs.LineSteps.{split_cons, empty_by}
@@ -52,8 +52,8 @@ bad_none : (p : ℕ) (a : Name) → bad_spot p a ≡ None → AllNameBytes a
 bad_none p [] e = tt
 bad_none p (x ∷ a) e =
     ⊎_elim
-    (λ (t : name_byte x ≡ true). (t, bad_none (p + 1) a (sym (cond-true (name_byte x) (bad_spot (p + 1) a) (Some (spot_at word-layer 25 p)) t) ∙ e)))
-    (λ (t : name_byte x ≡ false). let f = sym (cond-false (name_byte x) (bad_spot (p + 1) a) (Some (spot_at word-layer 25 p)) t) ∙ e in let z : ◌≡◌ {A = ℕ} 0 1 = cc in absurd (omega arith))
+    (λ (t : name_byte x ≡ true). (t, bad_none (p + 1) a (sym (cond-true (name_byte x) (bad_spot (p + 1) a) (Some (spot_at word_layer 25 p)) t) ∙ e)))
+    (λ (t : name_byte x ≡ false). let f = sym (cond-false (name_byte x) (bad_spot (p + 1) a) (Some (spot_at word_layer 25 p)) t) ∙ e in let z : ◌≡◌ {A = ℕ} 0 1 = cc in absurd (omega arith))
     (cases_Bool (name_byte x))
 
 -- a name of allowed bytes has no bad byte
@@ -65,8 +65,8 @@ none_bad p (x ∷ a) h = cond-true (name_byte x) _ _ h.0 ∙ none_bad (p + 1) a 
 pub fault_none : (p : ℕ) (a : Name) → name_fault p a ≡ None → empty a ≡ false → WellFormed a
 fault_none p a e ne =
     ⊎_elim
-    (λ (t : ltb 12 (length a) ≡ true). let f = sym (cond-true (ltb 12 (length a)) (Some (spot_at word-layer 24 p)) (bad_spot p a) t) ∙ e in let z : ◌≡◌ {A = ℕ} 0 1 = cc in absurd (omega arith))
-    (λ (t : ltb 12 (length a) ≡ false). record { some = some_by a ne; short = ltb-false 12 (length a) t; bytes = bad_none p a (sym (cond-false (ltb 12 (length a)) (Some (spot_at word-layer 24 p)) (bad_spot p a) t) ∙ e) })
+    (λ (t : ltb 12 (length a) ≡ true). let f = sym (cond-true (ltb 12 (length a)) (Some (spot_at word_layer 24 p)) (bad_spot p a) t) ∙ e in let z : ◌≡◌ {A = ℕ} 0 1 = cc in absurd (omega arith))
+    (λ (t : ltb 12 (length a) ≡ false). record { some = some_by a ne; short = ltb-false 12 (length a) t; bytes = bad_none p a (sym (cond-false (ltb 12 (length a)) (Some (spot_at word_layer 24 p)) (bad_spot p a) t) ∙ e) })
     (cases_Bool (ltb 12 (length a)))
   where
     some_by : (a : Name) → empty a ≡ false → 1 ≤ length a

@@ -10,7 +10,7 @@ use Rattle.std.proofs.lemmas.Bool.{cond-true, cond-false, lt-ltb, ne_eqb}
 use Rattle.book.specs.Grammar.{Name}
 use Rattle.book.specs.Pairs.{number_from, pairs_of, pairs_after, tied_in, joins}
 use Rattle.book.specs.declared.reader.Step.{Step}
-use Rattle.book.specs.declared.faults.Layer.TheVariants.{Book as book-layer, Line as line-layer}
+use Rattle.book.specs.declared.faults.Layer.TheVariants.{Book as book_layer, Line as line_layer}
 use Rattle.book.specs.Faults.{Spot, Fault, fault_in, spot_at}
 use Rattle.book.specs.Reading.{Entry, station, tie, stations, found, found_from, given_read, ties_read, shape_read, entry_read, lines_read, last_read, onward, line_read, Shape, split, piece, next}
 use Rattle.book.specs.declared.names.Names.{Names}
@@ -83,7 +83,7 @@ module _ (b : List ℕ) (at k x : ℕ) (ends : Ends 10 b at (length b) x) where
       ∙ ap (λ n. Err (fault_in n s)) (sym nk)
 
   -- a line without byte 10 ends the reading
-  last_stops : x ≡ length b → at < length b → (above : List Entry) → lines_read above at k (split 10 (piece b at (length b))) ≡ Err (fault_in k (spot_at line-layer 21 at))
+  last_stops : x ≡ length b → at < length b → (above : List Entry) → lines_read above at k (split 10 (piece b at (length b))) ≡ Err (fault_in k (spot_at line_layer 21 at))
   last_stops q h above =
       ap (lines_read above at k) (ends.pieces ∙ ap (λ r. piece b at x ∷ r) (rest_none 10 b x (length b) q) ∙ ap (λ j. piece b at j ∷ []) q)
       ∙ ap (last_read above at k) (piece_first b at (length b) h (omega arith))
@@ -104,9 +104,9 @@ shaped_goes b at k x next l ns e p q above s =
     ∙ ap (λ j. lines_read (above ++ e ∷ []) j (k + 1) (split 10 (piece b j (length b)))) (sym p.after)
 
 -- the reading ends after the last line
-pub last_ends : (b : List ℕ) (at k : ℕ) (above : List Entry) → at ≡ length b → lines_read above at k (split 10 (piece b at (length b))) ≡ cond (eqb (length (stations above)) 0) (Err (fault_in 0 (spot_at book-layer 30 at))) (Ok above)
+pub last_ends : (b : List ℕ) (at k : ℕ) (above : List Entry) → at ≡ length b → lines_read above at k (split 10 (piece b at (length b))) ≡ cond (eqb (length (stations above)) 0) (Err (fault_in 0 (spot_at book_layer 30 at))) (Ok above)
 last_ends b at k above e =
-    let P : ℕ → Type 0 = λ n. lines_read above at k (split 10 (piece b at n)) ≡ cond (eqb (length (stations above)) 0) (Err (fault_in 0 (spot_at book-layer 30 at))) (Ok above) in
+    let P : ℕ → Type 0 = λ n. lines_read above at k (split 10 (piece b at n)) ≡ cond (eqb (length (stations above)) 0) (Err (fault_in 0 (spot_at book_layer 30 at))) (Ok above) in
     subst P e (ap (λ l. lines_read above at k (split 10 l)) (piece_none b at))
 
 -- the stations of entries and of those after them
@@ -165,10 +165,10 @@ reached_more b t u at k s above e r m = record {
 }
 
 -- at the end
-pub reached_ends : (b : List ℕ) (t : Names) (at k : ℕ) (above : List Entry) → Reached b t at k above → length b ≤ at → lines_read [] 0 1 (split 10 b) ≡ cond (eqb t.count 0) (Err (fault_in 0 (spot_at book-layer 30 (length b)))) (Ok above)
+pub reached_ends : (b : List ℕ) (t : Names) (at k : ℕ) (above : List Entry) → Reached b t at k above → length b ≤ at → lines_read [] 0 1 (split 10 b) ≡ cond (eqb t.count 0) (Err (fault_in 0 (spot_at book_layer 30 (length b)))) (Ok above)
 reached_ends b t at k above r h =
     let w = r.within in
     let q : at ≡ length b = omega arith in
     r.goes ∙ last_ends b at k above q
-    ∙ ap (λ n. cond (eqb n 0) (Err (fault_in 0 (spot_at book-layer 30 at))) (Ok above)) (ap length (sym r.names) ∙ names_length b t t.count)
-    ∙ ap (λ n. cond (eqb t.count 0) (Err (fault_in 0 (spot_at book-layer 30 n))) (Ok above)) q
+    ∙ ap (λ n. cond (eqb n 0) (Err (fault_in 0 (spot_at book_layer 30 at))) (Ok above)) (ap length (sym r.names) ∙ names_length b t t.count)
+    ∙ ap (λ n. cond (eqb t.count 0) (Err (fault_in 0 (spot_at book_layer 30 n))) (Ok above)) q

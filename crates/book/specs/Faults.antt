@@ -1,7 +1,7 @@
 -- The faults by their numbers: the one table of what is wrong, in which layer, in which line and at which byte.
 use Rattle.std.specs.Prelude.{ℕ}
 use Rattle.book.specs.declared.faults.Layer.{Layer}
-use Rattle.book.specs.declared.faults.Layer.TheVariants.{Word as word-layer, Line as line-layer, Book as book-layer}
+use Rattle.book.specs.declared.faults.Layer.TheVariants.{Word as word_layer, Line as line_layer, Book as book_layer}
 use Rattle.book.specs.declared.faults.WordFault.{WordFault}
 use Rattle.book.specs.declared.faults.WordFault.TheVariants.{TooLong, BadByte}
 use Rattle.book.specs.declared.faults.LineFault.{LineFault}
@@ -30,25 +30,25 @@ fault_in k s = record { spot = s; line = k }
 
 -- a word's fault
 abbrev pub word_spot : WordFault → Spot
-word_spot (TooLong at) = spot_at word-layer 24 at
-word_spot (BadByte at) = spot_at word-layer 25 at
+word_spot (TooLong at) = spot_at word_layer 24 at
+word_spot (BadByte at) = spot_at word_layer 25 at
 
 -- a line's fault, or a fault of a word in it
 abbrev pub line_spot : LineFault → Spot
-line_spot (NoNewline at) = spot_at line-layer 21 at
-line_spot (UnknownKind at) = spot_at line-layer 22 at
-line_spot (WordCount at) = spot_at line-layer 23 at
+line_spot (NoNewline at) = spot_at line_layer 21 at
+line_spot (UnknownKind at) = spot_at line_layer 22 at
+line_spot (WordCount at) = spot_at line_layer 23 at
 line_spot (Word e) = word_spot e
 
 -- a book's fault, or a fault of a line in it; a fault in no line is in line 0, at the book's length
 abbrev pub fault_of : BookFault → Fault
-fault_of (TooLarge size) = fault_in 0 (spot_at book-layer 20 size)
+fault_of (TooLarge size) = fault_in 0 (spot_at book_layer 20 size)
 fault_of (Line f k) = fault_in k (line_spot f)
-fault_of (NameGiven at k) = fault_in k (spot_at book-layer 26 at)
-fault_of (NameUnknown at k) = fault_in k (spot_at book-layer 27 at)
-fault_of (TieToItself at k) = fault_in k (spot_at book-layer 28 at)
-fault_of (TooManyStations at k) = fault_in k (spot_at book-layer 29 at)
-fault_of (NoStation size) = fault_in 0 (spot_at book-layer 30 size)
+fault_of (NameGiven at k) = fault_in k (spot_at book_layer 26 at)
+fault_of (NameUnknown at k) = fault_in k (spot_at book_layer 27 at)
+fault_of (TieToItself at k) = fault_in k (spot_at book_layer 28 at)
+fault_of (TooManyStations at k) = fault_in k (spot_at book_layer 29 at)
+fault_of (NoStation size) = fault_in 0 (spot_at book_layer 30 size)
 
 -- a word's fault as a line's
 abbrev pub word_in_line : WordFault → LineFault

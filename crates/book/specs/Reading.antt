@@ -1,7 +1,7 @@
 -- The reading of a book: its entries, or its first fault.
 use Rattle.std.specs.Prelude.{ℕ, ◌+◌, ◌-◌, Bool, true, false, cond, ◌||◌, List, [], ◌∷◌, ◌++◌, length, take, drop, Some, None, Ok, Err, Option, Result, ◌==◌, nat_lt}
 use Rattle.std.specs.Str.{bytes_eq}
-use Rattle.book.specs.declared.faults.Layer.TheVariants.{Word as word-layer, Line as line-layer, Book as book-layer}
+use Rattle.book.specs.declared.faults.Layer.TheVariants.{Word as word_layer, Line as line_layer, Book as book_layer}
 use Rattle.book.specs.Faults.{Spot, Fault, spot_at, fault_in}
 use Rattle.book.specs.Grammar.{Name, name_byte}
 
@@ -39,11 +39,11 @@ piece book i j = take (j - i) (drop i book)
 -- the first byte not allowed, the name being at `at`
 abbrev pub bad_spot : ℕ → Name → Option Spot
 bad_spot at [] = None
-bad_spot at (b ∷ bs) = cond (name_byte b) (bad_spot (at + 1) bs) (Some (spot_at word-layer 25 at))
+bad_spot at (b ∷ bs) = cond (name_byte b) (bad_spot (at + 1) bs) (Some (spot_at word_layer 25 at))
 
 -- the fault of a name at `at`: above 12 bytes, then a byte not allowed
 abbrev pub name_fault : ℕ → Name → Option Spot
-name_fault at a = cond (nat_lt 12 (length a)) (Some (spot_at word-layer 24 at)) (bad_spot at a)
+name_fault at a = cond (nat_lt 12 (length a)) (Some (spot_at word_layer 24 at)) (bad_spot at a)
 
 -- a line of the right shape, each name with its place
 pub data Shape : Type 0 where
@@ -62,9 +62,9 @@ empty (b ∷ bs) = false
 
 -- the words after S, the first at p, in the line at `at`
 abbrev pub after_s : ℕ → ℕ → List (List ℕ) → Result Shape Spot
-after_s at p [] = Err (spot_at line-layer 23 at)
-after_s at p (a ∷ []) = cond (empty a) (Err (spot_at line-layer 23 at)) (unless (name_fault p a) (Ok (gives a p)))
-after_s at p (a ∷ b ∷ ws) = Err (spot_at line-layer 23 at)
+after_s at p [] = Err (spot_at line_layer 23 at)
+after_s at p (a ∷ []) = cond (empty a) (Err (spot_at line_layer 23 at)) (unless (name_fault p a) (Ok (gives a p)))
+after_s at p (a ∷ b ∷ ws) = Err (spot_at line_layer 23 at)
 
 -- the place of the word after the word a at p
 abbrev pub next : ℕ → List ℕ → ℕ
@@ -72,10 +72,10 @@ next p a = p + length a + 1
 
 -- the words after T, the first at p, in the line at `at`
 abbrev pub after_t : ℕ → ℕ → List (List ℕ) → Result Shape Spot
-after_t at p [] = Err (spot_at line-layer 23 at)
-after_t at p (a ∷ []) = Err (spot_at line-layer 23 at)
-after_t at p (a ∷ b ∷ []) = cond (empty a || empty b) (Err (spot_at line-layer 23 at)) (unless (name_fault p a) (unless (name_fault (next p a) b) (Ok (ties a p b (next p a)))))
-after_t at p (a ∷ b ∷ c ∷ ws) = Err (spot_at line-layer 23 at)
+after_t at p [] = Err (spot_at line_layer 23 at)
+after_t at p (a ∷ []) = Err (spot_at line_layer 23 at)
+after_t at p (a ∷ b ∷ []) = cond (empty a || empty b) (Err (spot_at line_layer 23 at)) (unless (name_fault p a) (unless (name_fault (next p a) b) (Ok (ties a p b (next p a)))))
+after_t at p (a ∷ b ∷ c ∷ ws) = Err (spot_at line_layer 23 at)
 
 -- the word is the one byte c
 abbrev pub is_byte : ℕ → List ℕ → Bool
@@ -85,8 +85,8 @@ is_byte c (b ∷ d ∷ bs) = false
 
 -- the words of the line at `at`, of which the first is S or T
 abbrev pub words_read : ℕ → List (List ℕ) → Result Shape Spot
-words_read at [] = Err (spot_at line-layer 22 at)
-words_read at (w ∷ ws) = cond (is_byte 83 w) (after_s at (next at w) ws) (cond (is_byte 84 w) (after_t at (next at w) ws) (Err (spot_at line-layer 22 at)))
+words_read at [] = Err (spot_at line_layer 22 at)
+words_read at (w ∷ ws) = cond (is_byte 83 w) (after_s at (next at w) ws) (cond (is_byte 84 w) (after_t at (next at w) ws) (Err (spot_at line_layer 22 at)))
 
 -- one line, without its byte 10, at `at`
 abbrev pub line_read : ℕ → List ℕ → Result Shape Spot
@@ -103,14 +103,14 @@ found a ns = found_from 0 a ns
 
 -- the name given before, or a 257th
 abbrev pub given_read : List Name → Name → ℕ → Option ℕ → Result Entry Spot
-given_read ns a p (Some k) = Err (spot_at book-layer 26 p)
-given_read ns a p None = cond (nat_lt (length ns) 256) (Ok (station a)) (Err (spot_at book-layer 29 p))
+given_read ns a p (Some k) = Err (spot_at book_layer 26 p)
+given_read ns a p None = cond (nat_lt (length ns) 256) (Ok (station a)) (Err (spot_at book_layer 29 p))
 
 -- the left name unknown, the right one unknown, or both the same
 abbrev pub ties_read : Name → ℕ → Name → ℕ → Option ℕ → Option ℕ → Result Entry Spot
-ties_read a p b q None v = Err (spot_at book-layer 27 p)
-ties_read a p b q (Some u) None = Err (spot_at book-layer 27 q)
-ties_read a p b q (Some u) (Some v) = cond (u == v) (Err (spot_at book-layer 28 q)) (Ok (tie a b))
+ties_read a p b q None v = Err (spot_at book_layer 27 p)
+ties_read a p b q (Some u) None = Err (spot_at book_layer 27 q)
+ties_read a p b q (Some u) (Some v) = cond (u == v) (Err (spot_at book_layer 28 q)) (Ok (tie a b))
 
 -- a line among the stations given above it
 abbrev pub shape_read : List Name → Shape → Result Entry Spot
@@ -129,8 +129,8 @@ onward k (Ok e) f = f e
 
 -- what stands after the last byte 10
 abbrev pub last_read : List Entry → ℕ → ℕ → List ℕ → Result (List Entry) Fault
-last_read above at k [] = cond (length (stations above) == 0) (Err (fault_in 0 (spot_at book-layer 30 at))) (Ok above)
-last_read above at k (b ∷ bs) = Err (fault_in k (spot_at line-layer 21 at))
+last_read above at k [] = cond (length (stations above) == 0) (Err (fault_in 0 (spot_at book_layer 30 at))) (Ok above)
+last_read above at k (b ∷ bs) = Err (fault_in k (spot_at line_layer 21 at))
 
 -- the lines from `at` on, of which the first is the k-th, below the entries above
 abbrev pub lines_read : List Entry → ℕ → ℕ → List (List ℕ) → Result (List Entry) Fault
@@ -140,4 +140,4 @@ lines_read above at k (l ∷ m ∷ ls) = onward k (entry_read (stations above) (
 
 -- the entries of the book, or its first fault
 abbrev pub reading : List ℕ → Result (List Entry) Fault
-reading book = cond (nat_lt 65536 (length book)) (Err (fault_in 0 (spot_at book-layer 20 (length book)))) (lines_read [] 0 1 (split 10 book))
+reading book = cond (nat_lt 65536 (length book)) (Err (fault_in 0 (spot_at book_layer 20 (length book)))) (lines_read [] 0 1 (split 10 book))

@@ -9,7 +9,7 @@ use Rattle.book.specs.declared.faults.WordFault.{WordFault}
 use Rattle.book.specs.declared.faults.LineFault.{LineFault}
 use Rattle.book.specs.declared.faults.FaultInLine.{FaultInLine}
 use Rattle.book.specs.declared.faults.BookFault.{BookFault}
-use Rattle.book.specs.declared.faults.Layer.TheVariants.{Word as word-layer, Line as line-layer}
+use Rattle.book.specs.declared.faults.Layer.TheVariants.{Word as word_layer, Line as line_layer}
 use Rattle.book.specs.declared.reader.Step.{Step}
 use Rattle.book.specs.Pairs.{pairs_of}
 use Rattle.book.specs.declared.lines.Line.{Line}
@@ -48,7 +48,7 @@ kind_of b i j (Name p) = Lies b p i j × (is_byte 83 (piece b i j) ≡ false) ×
 -- the place of the first byte not allowed in the name at `at`, if there is one
 abbrev pub BadAt : ℕ → List ℕ → Option ℕ → Type 0
 BadAt at a None = bad_spot at a ≡ None
-BadAt at a (Some k) = bad_spot at a ≡ Some (spot_at word-layer 25 k)
+BadAt at a (Some k) = bad_spot at a ≡ Some (spot_at word_layer 25 k)
 
 -- the fault of a word, if it has one
 abbrev pub word_shown : {A : Type 0} → Result A WordFault → Option Spot
@@ -126,7 +126,7 @@ pub record Shaped (b : List ℕ) (at end : ℕ) (l : Line) (next : ℕ) : Type 0
 -- the line at `at` has no byte 10, or is of no right shape
 pub record Misshaped (b : List ℕ) (at end : ℕ) (s : Spot) : Type 0 where
   pub ends : Ends 10 b at (length b) end
-  pub how : ((end ≡ length b) × (s ≡ spot_at line-layer 21 at)) ⊎ ((end < length b) × (line_read at (piece b at end) ≡ Err s))
+  pub how : ((end ≡ length b) × (s ≡ spot_at line_layer 21 at)) ⊎ ((end < length b) × (line_read at (piece b at end) ≡ Err s))
 
 -- a line has been read for its shape, or has its fault
 abbrev pub LineAt : List ℕ → ℕ → Result (Line × ℕ) LineFault → Type 0

@@ -56,7 +56,7 @@ module _ {g : Graph} {ok : ℕ → Bool} {a b : ℕ} (walk : Walk g (λ x. ok x 
 
   module _ (lay next : Graph) (left new fresh touched : ℕ → Bool) (d : ℕ) (w : Wave g ok a b lay left d) (here : left a ≡ true)
       (touches : (x : ℕ) → (touched x ≡ true) ↔ ((y : ℕ) × (lay d y ≡ true) × Edge g y x))
-      (is-fresh : (x : ℕ) → fresh x ≡ (touched x && left x)) (is-new : (x : ℕ) → new x ≡ (left x && not (fresh x))) where
+      (is_fresh : (x : ℕ) → fresh x ≡ (touched x && left x)) (is_new : (x : ℕ) → new x ≡ (left x && not (fresh x))) where
     abbrev Met : ℕ → Type 0
     Met x = (e : ℕ) × (e ≤ d) × (lay e x ≡ true)
 
@@ -74,7 +74,7 @@ module _ {g : Graph} {ok : ℕ → Bool} {a b : ℕ} (walk : Walk g (λ x. ok x 
                     w.cover y o
                     (gap_by (λ t.
                     both_ways _ (f y (low y o))
-                    (is-fresh y ∙ and_from _ _ ((touches y).1 (x, subst (λ k. lay k x ≡ true) (top m.0 m.1 l) m.2, e)) t)))
+                    (is_fresh y ∙ and_from _ _ ((touches y).1 (x, subst (λ k. lay k x ≡ true) (top m.0 m.1 l) m.2, e)) t)))
               ] in
               let m = closed_walk Met closed walk ok_a (0, omega arith, w.base) in
               absurd (both_ways _ (w.apart m.0 a m.1 m.2) here)
@@ -84,17 +84,17 @@ module _ {g : Graph} {ok : ℕ → Bool} {a b : ℕ} (walk : Walk g (λ x. ok x 
         top e h k = omega arith
 
     fresh_left : (x : ℕ) → fresh x ≡ true → left x ≡ true
-    fresh_left x t = (and_parts (touched x) (left x) (sym (is-fresh x) ∙ t)).1
+    fresh_left x t = (and_parts (touched x) (left x) (sym (is_fresh x) ∙ t)).1
 
     new_left : (x : ℕ) → new x ≡ true → left x ≡ true
-    new_left x t = (and_parts (left x) (not (fresh x)) (sym (is-new x) ∙ t)).0
+    new_left x t = (and_parts (left x) (not (fresh x)) (sym (is_new x) ∙ t)).0
 
     pub fewer_left : size new 256 < size left 256
     fewer_left =
         size_lt new left 256 (λ x h t. new_left x t) some.0 some.1
-        (is-new some.0 ∙ and_right (left some.0) _ (not_from_true _ some.2)) (fresh_left some.0 some.2)
+        (is_new some.0 ∙ and_right (left some.0) _ (not_from_true _ some.2)) (fresh_left some.0 some.2)
 
-    module _ (k : ℕ) (is_k : k ≡ suc d) (at-k : (x : ℕ) → next k x ≡ fresh x) (others : (e x : ℕ) → e ≢ k → next e x ≡ lay e x) where
+    module _ (k : ℕ) (is_k : k ≡ suc d) (at_k : (x : ℕ) → next k x ≡ fresh x) (others : (e x : ℕ) → e ≢ k → next e x ≡ lay e x) where
       old : (e x : ℕ) → e ≤ d → next e x ≡ true → lay e x ≡ true
       old e x h t = sym (others e x (λ m. omega arith)) ∙ t
 
@@ -102,7 +102,7 @@ module _ {g : Graph} {ok : ℕ → Bool} {a b : ℕ} (walk : Walk g (λ x. ok x 
       still e x h t = others e x (λ m. omega arith) ∙ t
 
       at_new : (e x : ℕ) → e ≡ k → next e x ≡ true → fresh x ≡ true
-      at_new e x m t = sym (at-k x) ∙ subst (λ e. next e x ≡ true) m t
+      at_new e x m t = sym (at_k x) ∙ subst (λ e. next e x ≡ true) m t
 
       pub wave_more : Wave g ok a b next new k
       wave_more =
@@ -112,7 +112,7 @@ module _ {g : Graph} {ok : ℕ → Bool} {a b : ℕ} (walk : Walk g (λ x. ok x 
             back = λ e x h t. elim (cases_lt e d) [
               | inl l ↦ let y = w.back e x l (old (suc e) x (omega arith) t) in (y.0, still e y.0 (omega arith) y.1, y.2)
               | inr l ↦
-                  let f = and_parts (touched x) (left x) (sym (is-fresh x) ∙ at_new (suc e) x (omega arith) t) in
+                  let f = and_parts (touched x) (left x) (sym (is_fresh x) ∙ at_new (suc e) x (omega arith) t) in
                   let y = (touches x).0 f.0 in
                   let m : d ≡ e = omega arith in
                   (y.0, still e y.0 (omega arith) (subst (λ e. lay e y.0 ≡ true) m y.1), y.2)
@@ -139,7 +139,7 @@ module _ {g : Graph} {ok : ℕ → Bool} {a b : ℕ} (walk : Walk g (λ x. ok x 
                     | inl u ↦ (
                       k,
                       omega arith,
-                      at-k y ∙ is-fresh y ∙ and_from _ _ ((touches y).1 (x, subst (λ e. lay e x ≡ true) m (old e x (omega arith) t), j)) u,
+                      at_k y ∙ is_fresh y ∙ and_from _ _ ((touches y).1 (x, subst (λ e. lay e x ≡ true) m (old e x (omega arith) t), j)) u,
                     )
                     | inr u ↦ let f = w.cover y o u in (f.0, omega (arith, f.1), still f.0 y f.1 f.2)
                   ]
@@ -147,16 +147,16 @@ module _ {g : Graph} {ok : ℕ → Bool} {a b : ℕ} (walk : Walk g (λ x. ok x 
             kept = λ x t. w.kept x (new_left x t);
             cover = λ x o u. elim (cases_Bool (left x)) [
               | inl t ↦
-                  (k, omega arith, at-k x ∙ edge_by (λ z. both_ways _ u (is-new x ∙ and_from _ _ t (not_from_false _ z))))
+                  (k, omega arith, at_k x ∙ edge_by (λ z. both_ways _ u (is_new x ∙ and_from _ _ t (not_from_false _ z))))
               | inr t ↦ let f = w.cover x o t in (f.0, omega (arith, f.1), still f.0 x f.1 f.2)
             ];
             apart = λ e x h t. elim (cases_eq e k) [
-              | inl m ↦ is-new x ∙ and_right (left x) _ (not_from_true _ (at_new e x m t))
-              | inr m ↦ is-new x ∙ and_left (left x) _ (w.apart e x (omega arith) (old e x (omega arith) t))
+              | inl m ↦ is_new x ∙ and_right (left x) _ (not_from_true _ (at_new e x m t))
+              | inr m ↦ is_new x ∙ and_left (left x) _ (w.apart e x (omega arith) (old e x (omega arith) t))
             ];
             goal = elim (cases_Bool (fresh a)) [
-              | inl t ↦ inr (at-k a ∙ t)
-              | inr t ↦ inl (is-new a ∙ and_from _ _ here (not_from_false _ t))
+              | inl t ↦ inr (at_k a ∙ t)
+              | inr t ↦ inl (is_new a ∙ and_from _ _ here (not_from_false _ t))
             ];
             few = (let s = fewer_left in let f = w.few in omega arith);
           }

@@ -34,13 +34,13 @@ linked_first (next o e s) = o
 
 module _ (g : Graph) (ok : ℕ → Bool) (v : ℕ) (now : Graph) (left : ℕ → Bool) (r : Laying g ok v now left)
     (c : ℕ) (t : left c ≡ true) (part border : ℕ → Bool)
-    (is-part : (d : ℕ) → (part d ≡ true) ↔ Linked g (λ x. ok x ≡ true) c d)
+    (is_part : (d : ℕ) → (part d ≡ true) ↔ Linked g (λ x. ok x ≡ true) c d)
     (is_border : (a : ℕ) → (border a ≡ true) ↔ (((d : ℕ) × (part d ≡ true) × Edge g d a) × Edge g v a)) where
   bound_of : (a : ℕ) → border a ≡ true → Bound g ok v c a
-  bound_of a e = let p = (is_border a).0 e in (p.1, (p.0.0, (is-part p.0.0).0 p.0.1, p.0.2))
+  bound_of a e = let p = (is_border a).0 e in (p.1, (p.0.0, (is_part p.0.0).0 p.0.1, p.0.2))
 
   of_bound : (x a : ℕ) → Linked g (λ x. ok x ≡ true) c x → Bound g ok v x a → border a ≡ true
-  of_bound x a k b = (is_border a).1 ((b.1.0, (is-part b.1.0).1 (follow k b.1.1), b.1.2), b.0)
+  of_bound x a k b = (is_border a).1 ((b.1.0, (is_part b.1.0).1 (follow k b.1.1), b.1.2), b.0)
 
   pub laid : Laying g ok v (λ a b. now a b || gaps g border a b) (λ x. left x && not (part x))
   laid =
@@ -63,7 +63,7 @@ module _ (g : Graph) (ok : ℕ → Bool) (v : ℕ) (now : Graph) (left : ℕ →
         full = λ x a b o l d f p q. elim (cases_Bool (left x)) [
           | inr n ↦ or_left _ _ (r.full x a b o n d f p q)
           | inl y ↦
-              let k : Linked g (λ x. ok x ≡ true) c x = (is-part x).0 (seen x y l) in
+              let k : Linked g (λ x. ok x ≡ true) c x = (is_part x).0 (seen x y l) in
               or_right _ _
               (and_from _ _ (of_bound x a k p)
               (and_from _ _ (not_from_false _ (ne_eqb b a (λ i. d (sym i)))) (and_from _ _ (of_bound x b k q) (not_from_false _ f))))
@@ -79,7 +79,7 @@ module _ (g : Graph) (ok : ℕ → Bool) (v : ℕ) (now : Graph) (left : ℕ →
   pub left_falls : c < 256 → size (λ x. left x && not (part x)) 256 < size left 256
   left_falls l =
       size_lt (λ x. left x && not (part x)) left 256 (λ x _ e. (and_parts (left x) (not (part x)) e).0) c l
-      (and_right _ _ (not_from_true _ ((is-part c).1 (here (r.inside c t))))) t
+      (and_right _ _ (not_from_true _ ((is_part c).1 (here (r.inside c t))))) t
 
 -- the parts among the stations below n are those of the whole
 

@@ -77,12 +77,12 @@ module _ (strip : List ℕ) (b : ℕ) (none : (x : ℕ) → x < 256 → at strip
 -- one layer more is marked: those that are fresh
 module _ (old new : List ℕ) (fresh left : ℕ → Bool) (d k mark : ℕ) (is_k : k ≡ suc d) (is_mark : mark ≡ suc k)
     (marking : (x : ℕ) → at new x ≡ cond (fresh x) mark (at old x)) (low : (x : ℕ) → x < 256 → at old x ≤ k)
-    (fresh_left : (x : ℕ) → fresh x ≡ true → left x ≡ true) (fresh-below : (x : ℕ) → fresh x ≡ true → x < 256)
+    (fresh_left : (x : ℕ) → fresh x ≡ true → left x ≡ true) (fresh_below : (x : ℕ) → fresh x ≡ true → x < 256)
     (apart : (e x : ℕ) → e ≤ d → level old e x ≡ true → left x ≡ false) where
   pub level_new : (x : ℕ) → level new k x ≡ fresh x
   level_new x =
       elim (cases_Bool (fresh x)) [
-        | inl t ↦ level_in new k x (fresh-below x t) ∙ eq-eqb (at new x) (suc k) (marking x ∙ cond-true (fresh x) mark (at old x) t ∙ is_mark) ∙ sym t
+        | inl t ↦ level_in new k x (fresh_below x t) ∙ eq-eqb (at new x) (suc k) (marking x ∙ cond-true (fresh x) mark (at old x) t ∙ is_mark) ∙ sym t
         | inr z ↦
             gap_by (λ t.
             let p = level_mark new k x t in

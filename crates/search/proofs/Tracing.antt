@@ -8,7 +8,7 @@ use Rattle.search.specs.Layers.{Layered, Traced}
 pub traced_more :
     (g lay : Graph) (a d m p k : ℕ) (was strip : List ℕ) (x y : ℕ) → Traced g lay a d m was strip → m ≡ suc p → m ≤ d →
     at strip (suc (d - m)) ≡ x → Edge g x y → lay p y ≡ true → k ≡ suc (suc (d - m)) → k < length strip → Traced g lay a d p was (set strip k y)
-traced_more g lay a d m p k was strip x y t e md is j l at-k long =
+traced_more g lay a d m p k was strip x y t e md is j l at_k long =
     record {
       first = other 1 (λ q. omega arith) ∙ t.first;
       levels = λ i q s h. elim (cases_eq q p) [

@@ -33,5 +33,4 @@ returns g c =
           c.put_front.ensures,
         ),
       );
-      store_stays = refl;
     }
