@@ -21,13 +21,14 @@ pub enum Verdict {
 }
 
 // Writes the search's order, from position 0, at the start of the strip; each of the first n labels is then its station's last.
-// Refused by 11 where strip or row is below 256 entries. The store is lent by a shared reference and stays as it is.
+// Refused by 11 where strip or row is below 256 entries.
 pub fn search<S: Store, L: Label + Copy>(
     store: &S,
     labels: &mut [L],
     strip: &mut [u8],
 ) -> Result<(), Refusal>
     ensures searches { Searches L.blank L.raised L.less (S.meaning store.now) strip.old strip.new labels.old labels.new result }
+    ensures store_stays { S.meaning store.exit.now ≡ S.meaning store.entry.now }
 {
     if strip.len() < 256 || labels.len() < 256 {
         return Err(Refusal::StripTooShort);
@@ -39,7 +40,7 @@ pub fn search<S: Store, L: Label + Copy>(
 }
 
 // Says whether the network is chordal, with its order or a ring in the strip. Refused by 11 where strip, row or marks strip
-// is below 256 entries. The store is lent by a shared reference and stays as it is.
+// is below 256 entries.
 pub fn judge<S: Store, L: Label + Copy>(
     store: &S,
     labels: &mut [L],
@@ -47,6 +48,7 @@ pub fn judge<S: Store, L: Label + Copy>(
     marks: &mut [u8],
 ) -> Result<Verdict, Refusal>
     ensures judges { Judges L.blank L.raised L.less (S.meaning store.now) strip.old strip.new labels.old labels.new marks.old marks.new result }
+    ensures store_stays { S.meaning store.exit.now ≡ S.meaning store.entry.now }
 {
     if strip.len() < 256 || labels.len() < 256 || marks.len() < 256 {
         return Err(Refusal::StripTooShort);

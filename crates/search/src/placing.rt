@@ -36,7 +36,7 @@ fn is_unexceeded<L: Label + Copy>(labels: &[L], among: StationSet, v: u8) -> boo
 
 // The lowest-numbered station of the set whose label no label of the set exceeds.
 fn pick<L: Label + Copy>(labels: &[L], among: StationSet) -> u8
-    requires { (256 ≤ length labels.now) × (((x : ℕ) × In among x)) }
+    requires { (256 ≤ length labels.now) × ((x : ℕ) × In among x) }
     ensures { Picked L.less labels.now (has among) result }
 {
     let mut left = among;

@@ -79,7 +79,7 @@ fn trace(
 
 // A ring of a network that is not chordal, and its length.
 pub(crate) fn find_ring(rows: &Rows, n: usize, marks: &mut [u8]) -> ([u8; 256], usize)
-    requires { (n ≤ 256) × ((256 ≤ length marks.old) × ((Simple n (adj rows.now)) × ((Chordal n (adj rows.now) → ⊥)))) }
+    requires { (n ≤ 256) × ((256 ≤ length marks.old) × ((Simple n (adj rows.now)) × (Chordal n (adj rows.now) → ⊥))) }
     ensures ring { (result.1 ≤ 256) × Ring n (adj rows.now) (take result.1 result.0) }
     ensures rest { after 256 marks.new ≡ after 256 marks.old }
 {

@@ -58,6 +58,7 @@ returns-then-is_perfect g c =
               (standing net) c.size-n.ensures c.rows_of-rows.ensures says,
         ),
       );
+      store_stays = refl;
     }
 
 pub find_ring-length-requires : goal.find_ring-length-requires
@@ -97,4 +98,5 @@ returns g c =
               (adj c.rows_of-rows.result) (standing net) c.size-n.ensures c.rows_of-rows.ensures says,
         ),
       );
+      store_stays = refl;
     }

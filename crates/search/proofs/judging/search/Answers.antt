@@ -33,4 +33,5 @@ returns g c =
           c.put_front.ensures,
         ),
       );
+      store_stays = refl;
     }
