@@ -8,13 +8,13 @@ use Rattle.book.proofs.Entries.{Follows, SoundAfter, Entries, spell, spelled}
 use Rattle.book.specs.declared.faults.Layer.TheVariants.{Line as line_layer, Book as book_layer}
 use Rattle.book.specs.Faults.{Spot, Fault, fault_in, spot_at}
 use Rattle.book.specs.Reading.{Entry, station, tie, stations, found, given_read, ties_read, shape_read, entry_read, onward, lines_read, last_read, reading, words_read, line_read, Shape, gives, ties, split, next, empty, is_byte, unless, name_fault, after_s, after_t}
-use Rattle.book.proofs.LineSteps.{split_cons}
+use Rattle.book.proofs.Splits.{split_cons}
 use Rattle.book.proofs.Splits.{unsplit, unsplit_split, split_lacks, split_only, name_lacks, fault_none, none_fault, not_empty, found_at, none_among, found_cases, among_some, among_none}
 
--- the line has the shape
-abbrev pub Spells : Shape → List ℕ → Type 0
-Spells (gives a p) l = (l ≡ 83 ∷ 32 ∷ a) × WellFormed a
-Spells (ties a p b q) l = (l ≡ 84 ∷ 32 ∷ (a ++ 32 ∷ b)) × WellFormed a × WellFormed b
+-- the line has the shape, its second word being at r
+abbrev pub Spells : ℕ → Shape → List ℕ → Type 0
+Spells r (gives a p) l = (l ≡ 83 ∷ 32 ∷ a) × WellFormed a × (p ≡ r)
+Spells r (ties a p b q) l = (l ≡ 84 ∷ 32 ∷ (a ++ 32 ∷ b)) × WellFormed a × WellFormed b × (p ≡ r) × (q ≡ next r a)
 
 -- a word that is one byte
 pub is_byte_lem : (c : ℕ) (w : List ℕ) → is_byte c w ≡ true → w ≡ c ∷ []
@@ -32,7 +32,7 @@ pub no_shape : {A : Type 0} {B : Type 0} (s : Spot) (x : A) → ◌≡◌ {A = R
 no_shape s x e = let z : ◌≡◌ {A = ℕ} 0 1 = cc in absurd (omega arith)
 
 -- what is read after S was spelled
-after_s_spells : (at p : ℕ) (ws : List (List ℕ)) (sh : Shape) → after_s at p ws ≡ Ok sh → Spells sh (unsplit 32 ((83 ∷ []) ∷ ws))
+after_s_spells : (at p : ℕ) (ws : List (List ℕ)) (sh : Shape) → after_s at p ws ≡ Ok sh → Spells p sh (unsplit 32 ((83 ∷ []) ∷ ws))
 after_s_spells at p [] sh e = no_shape _ sh e
 after_s_spells at p (a ∷ b ∷ ws) sh e = no_shape _ sh e
 after_s_spells at p (a ∷ []) sh e =
@@ -42,11 +42,11 @@ after_s_spells at p (a ∷ []) sh e =
     let u = unless_ok (name_fault p a) (Ok (gives a p)) sh (sym (cond-false (empty a) (Err (spot_at line_layer 23 at)) (unless (name_fault p a) (Ok (gives a p))) t) ∙ e) in
     let v = u.1 in
     let q : gives a p ≡ sh = cc in
-    subst (λ s. Spells s (83 ∷ 32 ∷ a)) q (refl, fault_none p a u.0 t))
+    subst (λ s. Spells p s (83 ∷ 32 ∷ a)) q (refl, fault_none p a u.0 t, refl))
     (cases_Bool (empty a))
 
 -- what is read after T was spelled
-after_t_spells : (at p : ℕ) (ws : List (List ℕ)) (sh : Shape) → after_t at p ws ≡ Ok sh → Spells sh (unsplit 32 ((84 ∷ []) ∷ ws))
+after_t_spells : (at p : ℕ) (ws : List (List ℕ)) (sh : Shape) → after_t at p ws ≡ Ok sh → Spells p sh (unsplit 32 ((84 ∷ []) ∷ ws))
 after_t_spells at p [] sh e = no_shape _ sh e
 after_t_spells at p (a ∷ []) sh e = no_shape _ sh e
 after_t_spells at p (a ∷ b ∷ c ∷ ws) sh e = no_shape _ sh e
@@ -61,33 +61,33 @@ after_t_spells at p (a ∷ b ∷ []) sh e =
     let both = or_parts (empty a) (empty b) t in
     let w = v.1 in
     let q : ties a p b n ≡ sh = cc in
-    subst (λ s. Spells s (84 ∷ 32 ∷ (a ++ 32 ∷ b))) q (refl, fault_none p a u.0 both.0, fault_none n b v.0 both.1))
+    subst (λ s. Spells p s (84 ∷ 32 ∷ (a ++ 32 ∷ b))) q (refl, fault_none p a u.0 both.0, fault_none n b v.0 both.1, refl, refl))
     (cases_Bool (empty a || empty b))
 
 -- a line whose words are read was spelled so
-words_spelled : (at : ℕ) (ws : List (List ℕ)) (sh : Shape) → words_read at ws ≡ Ok sh → Spells sh (unsplit 32 ws)
+words_spelled : (at : ℕ) (ws : List (List ℕ)) (sh : Shape) → words_read at ws ≡ Ok sh → Spells (next at (83 ∷ [])) sh (unsplit 32 ws)
 words_spelled at [] sh e = no_shape _ sh e
 words_spelled at (w ∷ ws) sh e =
     let S = after_s at (next at w) ws in
     let T = after_t at (next at w) ws in
     let N : Result Shape Spot = Err (spot_at line_layer 22 at) in
     ⊎_elim
-    (λ (s : is_byte 83 w ≡ true). subst (λ x. Spells sh (unsplit 32 (x ∷ ws))) (sym (is_byte_lem 83 w s)) (after_s_spells at (next at w) ws sh (sym (cond-true (is_byte 83 w) S (cond (is_byte 84 w) T N) s) ∙ e)))
+    (λ (s : is_byte 83 w ≡ true). subst (λ x. Spells (next at (83 ∷ [])) sh (unsplit 32 (x ∷ ws))) (sym (is_byte_lem 83 w s)) (subst (λ x. Spells (next at x) sh (unsplit 32 ((83 ∷ []) ∷ ws))) (is_byte_lem 83 w s) (after_s_spells at (next at w) ws sh (sym (cond-true (is_byte 83 w) S (cond (is_byte 84 w) T N) s) ∙ e))))
     (λ (s : is_byte 83 w ≡ false).
     let f = sym (cond-false (is_byte 83 w) S (cond (is_byte 84 w) T N) s) ∙ e in
     ⊎_elim
-    (λ (t : is_byte 84 w ≡ true). subst (λ x. Spells sh (unsplit 32 (x ∷ ws))) (sym (is_byte_lem 84 w t)) (after_t_spells at (next at w) ws sh (sym (cond-true (is_byte 84 w) T N t) ∙ f)))
+    (λ (t : is_byte 84 w ≡ true). subst (λ x. Spells (next at (83 ∷ [])) sh (unsplit 32 (x ∷ ws))) (sym (is_byte_lem 84 w t)) (subst (λ x. Spells (next at x) sh (unsplit 32 ((84 ∷ []) ∷ ws))) (is_byte_lem 84 w t) (after_t_spells at (next at w) ws sh (sym (cond-true (is_byte 84 w) T N t) ∙ f))))
     (λ (t : is_byte 84 w ≡ false). no_shape (spot_at line_layer 22 at) sh (sym (cond-false (is_byte 84 w) T N t) ∙ f))
     (cases_Bool (is_byte 84 w)))
     (cases_Bool (is_byte 83 w))
 
 -- a line that is read was spelled so
-pub line_spelled : (at : ℕ) (l : List ℕ) (sh : Shape) → line_read at l ≡ Ok sh → Spells sh l
-line_spelled at l sh e = subst (Spells sh) (unsplit_split 32 l) (words_spelled at (split 32 l) sh e)
+pub line_spelled : (at : ℕ) (l : List ℕ) (sh : Shape) → line_read at l ≡ Ok sh → Spells (next at (83 ∷ [])) sh l
+line_spelled at l sh e = subst (Spells (next at (83 ∷ [])) sh) (unsplit_split 32 l) (words_spelled at (split 32 l) sh e)
 
 -- a shape that is taken among the stations above may follow them
-pub shape_follows : (above : List Entry) (sh : Shape) (e : Entry) (l : List ℕ) → shape_read (stations above) sh ≡ Ok e → Spells sh l → (l ++ 10 ∷ [] ≡ spell e) × Follows above e
-shape_follows above (gives a p) e l r s =
+pub shape_follows : (above : List Entry) (k : ℕ) (sh : Shape) (e : Entry) (l : List ℕ) → shape_read (stations above) sh ≡ Ok e → Spells k sh l → (l ++ 10 ∷ [] ≡ spell e) × Follows above e
+shape_follows above k (gives a p) e l r s =
     let ns = stations above in
     elim (found_cases (found a ns)) [
       | inl n ↦
@@ -99,9 +99,9 @@ shape_follows above (gives a p) e l r s =
           subst (λ x. (l ++ 10 ∷ [] ≡ spell x) × Follows above x) q (ap (λ x. x ++ 10 ∷ []) s.0, (s.1, none_among 0 a ns n, ltb-true (length ns) 256 t)))
           (λ (t : ltb (length ns) 256 ≡ false). no_shape (spot_at book_layer 29 p) e (sym (cond-false (ltb (length ns) 256) (Ok (station a)) (Err (spot_at book_layer 29 p)) t) ∙ f))
           (cases_Bool (ltb (length ns) 256)))
-      | inr k ↦ no_shape (spot_at book_layer 26 p) e (sym (ap (given_read ns a p) k.1) ∙ r)
+      | inr m ↦ no_shape (spot_at book_layer 26 p) e (sym (ap (given_read ns a p) m.1) ∙ r)
     ]
-shape_follows above (ties a p b q) e l r s =
+shape_follows above k (ties a p b q) e l r s =
     let ns = stations above in
     elim (found_cases (found a ns)) [
       | inl n ↦ no_shape (spot_at book_layer 27 p) e (sym (ap (λ x. ties_read a p b q x (found b ns)) n) ∙ r)
@@ -216,7 +216,7 @@ lines_told above at k l (m ∷ ls) all h =
     let o = onward_ok k (entry_read (stations above) (line_read at l)) (λ e. lines_read (above ++ e ∷ []) (next at l) (k + 1) (m ∷ ls)) all h in
     let e = o.0 in
     let x = entry_ok (stations above) (line_read at l) e o.1 in
-    let s = shape_follows above x.0 e l x.2 (line_spelled at l x.0 x.1) in
+    let s = shape_follows above (next at (83 ∷ [])) x.0 e l x.2 (line_spelled at l x.0 x.1) in
     let t = lines_told (above ++ e ∷ []) (next at l) (k + 1) m ls all o.2 in
     record {
       es = e ∷ t.es;

@@ -6,7 +6,7 @@ use Rattle.book.specs.Faults.{Spot, spot_at}
 use Rattle.book.specs.Grammar.{Name, name_byte, AllNameBytes, WellFormed}
 use Rattle.book.specs.Reading.{gives, ties, station, tie, bad_spot, name_fault, unless, empty, after_s, after_t, next, is_byte, words_read, found, given_read, ties_read, entry_read, split}
 use Rattle.book.specs.FirstFault.{Cut, S, T, WordFaulty, too_long, bad_byte, LineFaulty, kind, station_words, station_empty, tie_words, tie_empty, station_name, left_name, right_name, given_before, left_unknown, right_unknown, itself, one_too_many}
-use Rattle.book.proofs.LineSteps.{empty_by}
+use Rattle.book.proofs.Splits.{empty_by}
 use Rattle.book.proofs.Splits.{split_lacks, split_only, none_fault, among_some, among_none}
 
 -- a text is cut in one way, the split's

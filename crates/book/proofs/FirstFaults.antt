@@ -11,7 +11,7 @@ use Rattle.book.proofs.Entries.{SoundAfter, spell, spelled}
 use Rattle.book.proofs.Accepts.{entry_ok, shape_follows, line_spelled}
 use Rattle.book.proofs.Grammars.{lines_after}
 use Rattle.book.proofs.LineFaults.{cut_split, line_faulty}
-use Rattle.book.proofs.LineSteps.{split_cons}
+use Rattle.book.proofs.Splits.{split_cons}
 
 -- what is wrong after the sound lines: no station, no byte 10, or a faulty line
 data Stops (names : List Name) (at k : ℕ) (rest : List ℕ) : Fault → Type 0 where
@@ -88,7 +88,7 @@ lines_stopped above text at k l (m ∷ ls) f cut e =
     elim (entry_cases (entry_read (stations above) (line_read at l))) [
       | inl r ↦
           (let x = entry_ok (stations above) (line_read at l) r.0 r.1 in
-          let s = shape_follows above x.0 r.0 l x.2 (line_spelled at l x.0 x.1) in
+          let s = shape_follows above _ x.0 r.0 l x.2 (line_spelled at l x.0 x.1) in
           one_more above r.0 l text more at k f cut.1.1 s.0 (s.1, tt)
           (lines_stopped (above ++ r.0 ∷ []) more (next at l) (k + 1) m ls f cut.1.2 (sym (ap (λ y. onward k y go) r.1) ∙ e)))
       | inr r ↦

@@ -2,6 +2,7 @@ pub mod Pieces
 pub mod LineSteps
 pub mod Table
 pub mod Steps
+pub mod Places
 pub mod Splits
 pub mod Entries
 pub mod Accepts

@@ -6,7 +6,7 @@ use Rattle.book.specs.Faults.{Spot, spot_at}
 use Rattle.book.specs.Grammar.{Name, name_byte, AllNameBytes, WellFormed}
 use Rattle.book.specs.Reading.{Shape, gives, ties, Entry, station, tie, bad_spot, name_fault, unless, empty, after_s, after_t, next, is_byte, words_read, line_read, found, given_read, ties_read, entry_read, split, led}
 use Rattle.book.specs.FirstFault.{Cut, S, T, WordFaulty, too_long, bad_byte, LineFaulty, kind, station_words, station_empty, tie_words, tie_empty, station_name, left_name, right_name, given_before, left_unknown, right_unknown, itself, one_too_many}
-use Rattle.book.proofs.LineSteps.{split_cons}
+use Rattle.book.proofs.Splits.{split_cons}
 use Rattle.book.proofs.Splits.{fault_none, found_at, none_among, found_cases}
 use Rattle.book.proofs.Accepts.{is_byte_lem}
 

@@ -12,7 +12,7 @@ use Rattle.book.proofs.Accepts.{bare, spell_bare, bare_lacks, entry_read_lem, re
 use Rattle.book.proofs.FaultyLines.{cut_is, faulty_words}
 use Rattle.book.proofs.FirstFaults.{count_entries}
 use Rattle.book.proofs.Grammars.{Spelling, lines_spelling}
-use Rattle.book.proofs.LineSteps.{split_cons}
+use Rattle.book.proofs.Splits.{split_cons}
 use Rattle.book.proofs.Splits.{split_lacks, split_only}
 
 -- a line with its byte 10 is one byte longer than without

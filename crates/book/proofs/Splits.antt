@@ -1,5 +1,5 @@
 -- Pieces put together again, names, and the search among them.
-use Rattle.std.proofs.Common.{◌≡◌, ℕ, zero, suc, ◌+◌, ◌<◌, ◌≤◌, true, false, eqb, ltb, ◌⊎◌, List, [], ◌∷◌, ◌++◌, length, get_or, Some, None, Option, sym, refl, ap, ◌∙◌, inl, inr, ⊎_elim, append_assoc, arith}
+use Rattle.std.proofs.Common.{cond, ◌≡◌, ℕ, zero, suc, ◌+◌, ◌<◌, ◌≤◌, true, false, eqb, ltb, ◌⊎◌, List, [], ◌∷◌, ◌++◌, length, get_or, Some, None, Option, sym, refl, ap, ◌∙◌, inl, inr, ⊎_elim, append_assoc, arith}
 use Rattle.std.specs.Str.{bytes_eq}
 use Rattle.std.proofs.lemmas.Slice.Eq.{bytes_eq-Decides}
 use Rattle.std.proofs.lemmas.Bool.{cond-true, cond-false, cases_Bool, le-ltb, ltb-false, eq-eqb, eqb-true, ne_eqb, both_ways}
@@ -8,7 +8,21 @@ use Rattle.book.specs.Grammar.{Name, name_byte, AllNameBytes, WellFormed, Among}
 use Rattle.book.specs.declared.faults.Layer.TheVariants.{Word as word_layer}
 use Rattle.book.specs.Faults.{spot_at}
 use Rattle.book.specs.Reading.{found, found_from, split, led, empty, name_fault, bad_spot}
-use Rattle.book.proofs.LineSteps.{split_cons, empty_by}
+
+-- there is always a first piece
+pub split_cons : (c : ℕ) (bs : List ℕ) → (u : List ℕ) × (us : List (List ℕ)) × (split c bs ≡ u ∷ us)
+split_cons c [] = ([], [], refl)
+split_cons c (b ∷ bs) = elim (eqb b c) as (λ t. (u : List ℕ) × (us : List (List ℕ)) × (cond t ([] ∷ split c bs) (led (b ∷ []) (split c bs)) ≡ u ∷ us)) [ true ↦ ([], split c bs, refl) | false ↦ (let q = split_cons c bs in (b ∷ q.0, q.1, ap (led (b ∷ [])) q.2)) ]
+
+-- a list with a byte is not empty
+pub empty_by : (a : List ℕ) → (length a ≡ 0 → ⊥) → empty a ≡ false
+empty_by [] n = absurd (n refl)
+empty_by (b ∷ bs) n = refl
+
+-- a list without a byte is empty
+pub empty_of : (a : List ℕ) → length a ≡ 0 → empty a ≡ true
+empty_of [] n = refl
+empty_of (b ∷ bs) n = absurd (omega arith)
 
 -- pieces put together again
 abbrev pub unsplit : ℕ → List (List ℕ) → List ℕ

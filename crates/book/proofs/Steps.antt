@@ -1,29 +1,35 @@
 -- Entries among the stations above them, and the way from line to line.
-use Rattle.std.proofs.Common.{◌≡◌, ℕ, suc, ◌+◌, ◌-◌, ◌<◌, ◌≤◌, Bool, true, false, cond, ◌||◌, eqb, List, [], ◌∷◌, ◌++◌, length, Some, None, Ok, Err, sym, refl, ap, ◌∙◌, subst, inl, inr, append_assoc, arith}
-use Rattle.std.proofs.lemmas.List.{take_all, append-nil}
-use Rattle.book.specs.declared.lines.Line.{Line}
-use Rattle.book.specs.Shown.{Ends, shape_of, Shaped, Misshaped, Moved}
-use Rattle.book.specs.Tables.{first_names, Inside, names_in}
-use Rattle.book.proofs.Table.{names_length}
+use Rattle.std.proofs.Common.{drop, length-drop, ◌≡◌, ℕ, suc, ◌+◌, ◌<◌, ◌≤◌, Bool, true, false, cond, ◌||◌, ◌⊎◌, eqb, List, [], ◌∷◌, ◌++◌, length, Some, None, Ok, Err, Option, Result, sym, refl, ap, ◌∙◌, inl, inr, append_assoc, arith}
+use Rattle.std.specs.Option.{is_some}
 use Rattle.std.specs.Str.{bytes_eq}
+use Rattle.std.proofs.lemmas.List.{append-nil}
 use Rattle.std.proofs.lemmas.Bool.{cond-true, cond-false, lt-ltb, ne_eqb}
-use Rattle.book.specs.Grammar.{Name}
-use Rattle.book.specs.Pairs.{number_from, pairs_of, pairs_after, tied_in, joins}
-use Rattle.book.specs.declared.reader.Step.{Step}
+use Rattle.book.specs.declared.names.Names.{Names}
+use Rattle.book.specs.declared.part.Part.{Part}
 use Rattle.book.specs.declared.faults.Layer.TheVariants.{Book as book_layer, Line as line_layer}
 use Rattle.book.specs.Faults.{Spot, Fault, fault_in, spot_at}
-use Rattle.book.specs.Reading.{Entry, station, tie, stations, found, found_from, given_read, ties_read, shape_read, entry_read, lines_read, last_read, onward, line_read, Shape, split, piece, next}
-use Rattle.book.specs.declared.names.Names.{Names}
-use Rattle.book.proofs.Pieces.{piece_first, piece_none}
-use Rattle.book.proofs.LineSteps.{split_cons, rest_none, piece_length}
+use Rattle.book.specs.Grammar.{Name}
+use Rattle.book.specs.Pairs.{number_from, pairs_of, pairs_after, tied_in, joins}
+use Rattle.book.specs.Reading.{Entry, station, tie, stations, found, found_from, given_read, ties_read, shape_read, entry_read, lines_read, last_read, onward, line_read, reading, Shape, split, next}
+use Rattle.book.specs.Shown.{Halves, Unended, Misshaped, Moved}
+use Rattle.book.specs.Tables.{names_in}
+use Rattle.book.proofs.Accepts.{reading_small}
+use Rattle.book.proofs.Pieces.{halves_pieces}
+use Rattle.book.proofs.Splits.{split_cons, split_only}
+use Rattle.book.proofs.Table.{names_length}
 
 -- a new name joins the stations
 pub station_ok : (ns : List Name) (a : Name) (p : ℕ) → None ≡ found a ns → length ns < 256 → given_read ns a p (found a ns) ≡ Ok (station a)
 station_ok ns a p e h = ap (given_read ns a p) (sym e) ∙ cond-true _ _ _ (lt-ltb (length ns) 256 h)
 
+-- what is not some is none
+pub none_here : (o : Option ℕ) → is_some o ≡ false → None ≡ o
+none_here None e = refl
+none_here (Some x) e = cc
+
 -- two known, different names are tied
-pub tie_ok : (ns : List Name) (a : Name) (p : ℕ) (b : Name) (q u v : ℕ) → Some u ≡ found a ns → Some v ≡ found b ns → (u ≡ v → ⊥) → ties_read a p b q (found a ns) (found b ns) ≡ Ok (tie a b)
-tie_ok ns a p b q u v e f d = ap (λ x. ties_read a p b q x (found b ns)) (sym e) ∙ ap (ties_read a p b q (Some u)) (sym f) ∙ cond-false _ _ _ (ne_eqb u v d)
+pub tie_ok : (ns : List Name) (a : Name) (p : ℕ) (b : Name) (q u v : ℕ) → found a ns ≡ Some u → found b ns ≡ Some v → (u ≡ v → ⊥) → ties_read a p b q (found a ns) (found b ns) ≡ Ok (tie a b)
+tie_ok ns a p b q u v e f d = ap (λ x. ties_read a p b q x (found b ns)) e ∙ ap (ties_read a p b q (Some u)) f ∙ cond-false _ _ _ (ne_eqb u v d)
 
 -- the number that is found is the number of the name
 pub number_found : (i : ℕ) (a : Name) (ns : List Name) (k : ℕ) → found_from i a ns ≡ Some k → (number_from i a ns ≡ k) × (k < i + length ns)
@@ -35,79 +41,54 @@ number_found i a (n ∷ ns) k e =
     ] e
 
 -- two names that are found, as a pair of numbers
-pub pair_found : (ns : List Name) (a b : Name) (u v : ℕ) → Some u ≡ found a ns → Some v ≡ found b ns → ((u, v) ∷ [] ≡ pairs_of ns (tie a b)) × (u < length ns) × (v < length ns)
+pub pair_found : (ns : List Name) (a b : Name) (u v : ℕ) → found a ns ≡ Some u → found b ns ≡ Some v → ((u, v) ∷ [] ≡ pairs_of ns (tie a b)) × (u < length ns) × (v < length ns)
 pair_found ns a b u v e f =
-    let p = number_found 0 a ns u (sym e) in
-    let q = number_found 0 b ns v (sym f) in
+    let p = number_found 0 a ns u e in
+    let q = number_found 0 b ns v f in
     (ap (λ x. (x, v) ∷ []) (sym p.0) ∙ ap (λ x. (number_from 0 a ns, x) ∷ []) (sym q.0), omega (arith, p.1), omega (arith, q.1))
 
 -- from line to line
-module _ (b : List ℕ) (at k x : ℕ) (ends : Ends 10 b at (length b) x) where
-  -- the line that ends at x, and those after it
-  lines_more : (x ≡ length b → ⊥) → split 10 (piece b at (length b)) ≡ piece b at x ∷ split 10 (piece b (x + 1) (length b))
-  lines_more ne = ends.pieces ∙ ap (λ r. piece b at x ∷ r) (cond-false _ _ _ (ne_eqb x (length b) ne))
-
-  -- the next line begins after x
-  next_line : next at (piece b at x) ≡ x + 1
-  next_line = let lo = ends.low in let hi = ends.high in omega (arith, piece_length b at x lo (omega arith))
-
+module _ (k : ℕ) (t l s : Part) (cut : Halves 10 t l (Some s)) where
   -- the reading goes by way of this line
-  onto : (x ≡ length b → ⊥) → (above : List Entry) → lines_read above at k (split 10 (piece b at (length b))) ≡ onward k (entry_read (stations above) (line_read at (piece b at x))) (λ e. lines_read (above ++ e ∷ []) (next at (piece b at x)) (k + 1) (split 10 (piece b (x + 1) (length b))))
-  onto ne above =
-      let q = split_cons 10 (piece b (x + 1) (length b)) in
-      ap (lines_read above at k) (lines_more ne ∙ ap (λ r. piece b at x ∷ r) q.2)
-      ∙ ap (λ r. onward k (entry_read (stations above) (line_read at (piece b at x))) (λ e. lines_read (above ++ e ∷ []) (next at (piece b at x)) (k + 1) r)) (sym q.2)
+  onto : (above : List Entry) → lines_read above t.at k (split 10 t.bytes.now) ≡ onward k (entry_read (stations above) (line_read t.at l.bytes.now)) (λ e. lines_read (above ++ e ∷ []) s.at (k + 1) (split 10 s.bytes.now))
+  onto above =
+      let q = split_cons 10 s.bytes.now in
+      let r : Result Entry Spot = entry_read (stations above) (line_read t.at l.bytes.now) in
+      ap (lines_read above t.at k) (halves_pieces 10 t l (Some s) cut ∙ ap (λ x. l.bytes.now ∷ x) q.2)
+      ∙ ap (λ x. onward k r (λ e. lines_read (above ++ e ∷ []) (next t.at l.bytes.now) (k + 1) x)) (sym q.2)
+      ∙ ap (λ j. onward k r (λ e. lines_read (above ++ e ∷ []) j (k + 1) (split 10 s.bytes.now))) (sym cut.3)
 
   -- a line that is read leads to the next
-  line_goes : (x ≡ length b → ⊥) → (ns : List Name) (sh : Shape) (e : Entry) → line_read at (piece b at x) ≡ Ok sh → shape_read ns sh ≡ Ok e
-      → (above : List Entry) → stations above ≡ ns → lines_read above at k (split 10 (piece b at (length b))) ≡ lines_read (above ++ e ∷ []) (x + 1) (k + 1) (split 10 (piece b (x + 1) (length b)))
-  line_goes ne ns sh e p q above s =
-      onto ne above
-      ∙ ap (λ r. onward k r (λ d. lines_read (above ++ d ∷ []) (next at (piece b at x)) (k + 1) (split 10 (piece b (x + 1) (length b))))) (ap (entry_read (stations above)) p ∙ ap (λ m. shape_read m sh) s ∙ q)
-      ∙ ap (λ j. lines_read (above ++ e ∷ []) j (k + 1) (split 10 (piece b (x + 1) (length b)))) next_line
+  pub line_goes : (ns : List Name) (sh : Shape) (e : Entry) → line_read t.at l.bytes.now ≡ Ok sh → shape_read ns sh ≡ Ok e
+      → (above : List Entry) → stations above ≡ ns → lines_read above t.at k (split 10 t.bytes.now) ≡ lines_read (above ++ e ∷ []) s.at (k + 1) (split 10 s.bytes.now)
+  line_goes ns sh e p q above n =
+      onto above
+      ∙ ap (λ r. onward k r (λ d. lines_read (above ++ d ∷ []) s.at (k + 1) (split 10 s.bytes.now))) (ap (entry_read (stations above)) p ∙ ap (λ m. shape_read m sh) n ∙ q)
 
   -- a line that is refused among the stations above ends the reading
-  pub shape_stops : (x ≡ length b → ⊥) → (ns : List Name) (sh : Shape) (f : Fault) → line_read at (piece b at x) ≡ Ok sh → shape_read ns sh ≡ Err f.spot → f.line ≡ k
-      → (above : List Entry) → stations above ≡ ns → lines_read above at k (split 10 (piece b at (length b))) ≡ Err f
-  shape_stops ne ns sh f p q fk above st =
-      onto ne above
-      ∙ ap (λ r. onward k r (λ d. lines_read (above ++ d ∷ []) (next at (piece b at x)) (k + 1) (split 10 (piece b (x + 1) (length b))))) (ap (entry_read (stations above)) p ∙ ap (λ m. shape_read m sh) st ∙ q)
-      ∙ ap (λ n. Err (fault_in n f.spot)) (sym fk)
+  pub shape_stops : (ns : List Name) (sh : Shape) (f : Fault) → line_read t.at l.bytes.now ≡ Ok sh → shape_read ns sh ≡ Err f.spot → f.line ≡ k
+      → (above : List Entry) → stations above ≡ ns → lines_read above t.at k (split 10 t.bytes.now) ≡ Err f
+  shape_stops ns sh f p q fk above n =
+      onto above
+      ∙ ap (λ r. onward k r (λ d. lines_read (above ++ d ∷ []) s.at (k + 1) (split 10 s.bytes.now))) (ap (entry_read (stations above)) p ∙ ap (λ m. shape_read m sh) n ∙ q)
+      ∙ ap (λ m. Err (fault_in m f.spot)) (sym fk)
 
   -- a line of the wrong shape ends the reading
-  line_stops : (x ≡ length b → ⊥) → (n : ℕ) (s : Spot) → line_read at (piece b at x) ≡ Err s → n ≡ k
-      → (above : List Entry) → lines_read above at k (split 10 (piece b at (length b))) ≡ Err (fault_in n s)
-  line_stops ne n s p nk above =
-      onto ne above
-      ∙ ap (λ r. onward k r (λ d. lines_read (above ++ d ∷ []) (next at (piece b at x)) (k + 1) (split 10 (piece b (x + 1) (length b))))) (ap (entry_read (stations above)) p)
-      ∙ ap (λ n. Err (fault_in n s)) (sym nk)
+  line_stops : (e : Spot) → line_read t.at l.bytes.now ≡ Err e → (above : List Entry) → lines_read above t.at k (split 10 t.bytes.now) ≡ Err (fault_in k e)
+  line_stops e p above =
+      onto above ∙ ap (λ r. onward k r (λ d. lines_read (above ++ d ∷ []) s.at (k + 1) (split 10 s.bytes.now))) (ap (entry_read (stations above)) p)
 
-  -- a line without byte 10 ends the reading
-  last_stops : x ≡ length b → at < length b → (above : List Entry) → lines_read above at k (split 10 (piece b at (length b))) ≡ Err (fault_in k (spot_at line_layer 21 at))
-  last_stops q h above =
-      ap (lines_read above at k) (ends.pieces ∙ ap (λ r. piece b at x ∷ r) (rest_none 10 b x (length b) q) ∙ ap (λ j. piece b at j ∷ []) q)
-      ∙ ap (last_read above at k) (piece_first b at (length b) h (omega arith))
+-- bytes after the last byte 10
+last_some : (above : List Entry) (at k : ℕ) (bs : List ℕ) → 0 < length bs → last_read above at k bs ≡ Err (fault_in k (spot_at line_layer 21 at))
+last_some above at k [] h = absurd (omega arith)
+last_some above at k (b ∷ bs) h = refl
 
--- a line without byte 10, or of the wrong shape, ends the reading
-pub misshaped_stops : (b : List ℕ) (at k x n : ℕ) (s : Spot) → Misshaped b at x s → at < length b → n ≡ k → (above : List Entry) → lines_read above at k (split 10 (piece b at (length b))) ≡ Err (fault_in n s)
-misshaped_stops b at k x n s m h nk above =
-    elim m.how [
-      | inl q ↦ last_stops b at k x m.ends q.0 h above ∙ ap (λ t. Err (fault_in k t)) (sym q.1) ∙ ap (λ i. Err (fault_in i s)) (sym nk)
-      | inr q ↦ line_stops b at k x m.ends (λ e. omega arith) n s q.1 nk above
-    ]
-
--- a line of the right shape that is admitted leads to the next
-pub shaped_goes : (b : List ℕ) (at k x next : ℕ) (l : Line) (ns : List Name) (e : Entry) → Shaped b at x l next → shape_read ns (shape_of l) ≡ Ok e
-    → (above : List Entry) → stations above ≡ ns → lines_read above at k (split 10 (piece b at (length b))) ≡ lines_read (above ++ e ∷ []) next (k + 1) (split 10 (piece b next (length b)))
-shaped_goes b at k x next l ns e p q above s =
-    line_goes b at k x p.ends (λ h. omega (arith, p.newline)) ns (shape_of l) e p.shape q above s
-    ∙ ap (λ j. lines_read (above ++ e ∷ []) j (k + 1) (split 10 (piece b j (length b)))) (sym p.after)
-
--- the reading ends after the last line
-pub last_ends : (b : List ℕ) (at k : ℕ) (above : List Entry) → at ≡ length b → lines_read above at k (split 10 (piece b at (length b))) ≡ cond (eqb (length (stations above)) 0) (Err (fault_in 0 (spot_at book_layer 30 at))) (Ok above)
-last_ends b at k above e =
-    let P : ℕ → Type 0 = λ n. lines_read above at k (split 10 (piece b at n)) ≡ cond (eqb (length (stations above)) 0) (Err (fault_in 0 (spot_at book_layer 30 at))) (Ok above) in
-    subst P e (ap (λ l. lines_read above at k (split 10 l)) (piece_none b at))
+-- a text without byte 10, or whose first line is of the wrong shape, ends the reading
+pub wrong_stops : (k n : ℕ) (t : Part) (s : Spot) → Unended t s ⊎ Misshaped t s → 0 < length t.bytes.now → n ≡ k → (above : List Entry) → lines_read above t.at k (split 10 t.bytes.now) ≡ Err (fault_in n s)
+wrong_stops k n t s (inl u) h e above =
+    ap (lines_read above t.at k) (split_only 10 t.bytes.now u.lacks) ∙ last_some above t.at k t.bytes.now h
+    ∙ ap (λ x. Err (fault_in k x)) (sym u.spot) ∙ ap (λ m. Err (fault_in m s)) (sym e)
+wrong_stops k n t s (inr m) h e above = line_stops k t m.line m.rest m.cut s m.shape above ∙ ap (λ i. Err (fault_in i s)) (sym e)
 
 -- the stations of entries and of those after them
 pub stations_both : (es fs : List Entry) → stations (es ++ fs) ≡ stations es ++ stations fs
@@ -136,39 +117,27 @@ tied_both (p ∷ ps) qs u v = ap (λ t. joins p u v || t) (tied_both ps qs u v) 
 pub tied_more : (es : List Entry) (e : Entry) (u v : ℕ) → tied_in (pairs_after [] (es ++ e ∷ [])) u v ≡ (tied_in (pairs_after [] es) u v || tied_in (pairs_of (stations es) e) u v)
 tied_more es e u v = ap (λ ps. tied_in ps u v) (pairs_push [] es e) ∙ tied_both (pairs_after [] es) (pairs_of (stations es) e) u v
 
--- the lines before `at` have been read as the entries above
-pub record Reached (b : List ℕ) (t : Names) (at k : ℕ) (above : List Entry) : Type 0 where
-  pub goes : lines_read [] 0 1 (split 10 b) ≡ lines_read above at k (split 10 (piece b at (length b)))
+-- the lines before r have been read as the entries above
+pub record Reached (b : List ℕ) (t : Names) (r : Part) (k : ℕ) (above : List Entry) : Type 0 where
+  pub goes : lines_read [] 0 1 (split 10 b) ≡ lines_read above r.at k (split 10 r.bytes.now)
   pub names : names_in b t ≡ stations above
-  pub inside : Inside b t
-  pub within : at ≤ length b
-  pub few : k ≤ at + 1
-
--- at the start
-pub reached_start : (b : List ℕ) (t : Names) → t.count ≡ 0 → Reached b t 0 1 []
-reached_start b t e = record {
-  goes = ap (λ l. lines_read [] 0 1 (split 10 l)) (sym (take_all (length b - 0) b (omega arith)));
-  names = ap (first_names b t) e;
-  inside = record { few = omega arith; fits = λ k l. absurd (omega arith) };
-  within = omega arith;
-  few = omega arith;
-}
 
 -- one line on
-pub reached_more : (b : List ℕ) (t u : Names) (at k : ℕ) (s : Step) (above : List Entry) (e : Entry) → Reached b t at k above → Moved b at k t u s e → Reached b u s.next (k + 1) (above ++ e ∷ [])
-reached_more b t u at k s above e r m = record {
-  goes = r.goes ∙ m.goes above (sym r.names);
-  names = m.names ∙ ap (λ x. x ++ stations (e ∷ [])) r.names ∙ sym (stations_both above (e ∷ []));
-  inside = m.inside;
-  within = m.within;
-  few = omega (arith, m.on, r.few);
+pub reached_more : (b : List ℕ) (t u : Names) (r s : Part) (k n : ℕ) (x : Option (ℕ × ℕ)) (above : List Entry) (e : Entry) → Reached b t r k above → Moved b k r s t u x e → n ≡ k + 1 → Reached b u s n (above ++ e ∷ [])
+reached_more b t u r s k n x above e p m q = record {
+  goes = p.goes ∙ m.goes above (sym p.names) ∙ ap (λ i. lines_read (above ++ e ∷ []) s.at i (split 10 s.bytes.now)) (sym q);
+  names = m.names ∙ ap (λ y. y ++ stations (e ∷ [])) p.names ∙ sym (stations_both above (e ∷ []));
 }
 
+-- nothing after the last byte 10
+last_none : (above : List Entry) (at k : ℕ) (bs : List ℕ) → length bs ≡ 0 → lines_read above at k (split 10 bs) ≡ cond (eqb (length (stations above)) 0) (Err (fault_in 0 (spot_at book_layer 30 at))) (Ok above)
+last_none above at k [] h = refl
+last_none above at k (b ∷ bs) h = absurd (omega arith)
+
 -- at the end
-pub reached_ends : (b : List ℕ) (t : Names) (at k : ℕ) (above : List Entry) → Reached b t at k above → length b ≤ at → lines_read [] 0 1 (split 10 b) ≡ cond (eqb t.count 0) (Err (fault_in 0 (spot_at book_layer 30 (length b)))) (Ok above)
-reached_ends b t at k above r h =
-    let w = r.within in
-    let q : at ≡ length b = omega arith in
-    r.goes ∙ last_ends b at k above q
-    ∙ ap (λ n. cond (eqb n 0) (Err (fault_in 0 (spot_at book_layer 30 at))) (Ok above)) (ap length (sym r.names) ∙ names_length b t t.count)
+pub reached_ends : (b a : List ℕ) (t : Names) (r : Part) (k : ℕ) (above : List Entry) → Reached b t r k above → a ≡ b → length b ≤ 65536 → r.at ≤ length a → r.bytes.now ≡ drop r.at a → length r.bytes.now ≡ 0 → reading b ≡ cond (eqb t.count 0) (Err (fault_in 0 (spot_at book_layer 30 (length b)))) (Ok above)
+reached_ends b a t r k above p same small within left none =
+    let q : r.at ≡ length b = omega (arith, ap length left, length-drop r.at a, ap length same) in
+    reading_small b small ∙ p.goes ∙ last_none above r.at k r.bytes.now none
+    ∙ ap (λ n. cond (eqb n 0) (Err (fault_in 0 (spot_at book_layer 30 r.at))) (Ok above)) (ap length (sym p.names) ∙ names_length b t t.count)
     ∙ ap (λ n. cond (eqb t.count 0) (Err (fault_in 0 (spot_at book_layer 30 n))) (Ok above)) q

@@ -1,12 +1,14 @@
 -- The table of names.
-use Rattle.std.proofs.Common.{◌≡◌, ℕ, zero, suc, ◌+◌, ◌<◌, ◌≤◌, true, false, ◌≢◌, List, [], ◌∷◌, ◌++◌, length, get_or, take, drop, Some, None, sym, refl, ap, ◌∙◌, subst, ⊎_elim, add-one, arith}
+use Rattle.std.proofs.Common.{◌≡◌, ℕ, zero, suc, ◌+◌, ◌<◌, Bool, cond, ◌&&◌, leb, List, [], ◌∷◌, ◌++◌, length, get_or, take, Some, sym, refl, ap, ◌∙◌, subst, ⊎_elim, add-one, arith, length-take}
+use Rattle.std.specs.List.{position_from}
 use Rattle.std.specs.Str.{bytes_eq}
-use Rattle.std.proofs.lemmas.List.{length_push, get_or_push, get_or_append_left, get_or-set_same, get_or-set_other, at_drop_more, at_drop_all}
-use Rattle.std.proofs.lemmas.Bool.{cond-true, cond-false, cases_eq}
+use Rattle.std.proofs.lemmas.List.{length_push, get_or_push, get_or_append_left, get_or-set_same, get_or-set_other, get_or-take}
+use Rattle.std.proofs.lemmas.Bool.{cases_eq, le-leb}
 use Rattle.book.specs.declared.names.Names.{Names}
+use Rattle.book.specs.declared.names.Span.{Span}
 use Rattle.book.specs.Grammar.{Name}
-use Rattle.book.specs.Reading.{found_from}
-use Rattle.book.specs.Tables.{name_at, first_names, names_in, Inside, Added}
+use Rattle.book.specs.Reading.{found, found_from}
+use Rattle.book.specs.Tables.{no_span, spanned, span_at, name_at, first_names, names_in, Inside, Added}
 
 -- the table has as many names as it counts
 pub names_length : (b : List ℕ) (t : Names) (n : ℕ) → length (first_names b t n) ≡ n
@@ -29,51 +31,42 @@ names_same b t u zero h = refl
 names_same b t u (suc n) h = ap (λ x. x ++ name_at b t n ∷ []) (names_same b t u n (λ k l. h k (omega arith))) ∙ ap (λ x. first_names b u n ++ x ∷ []) (h n (omega arith))
 
 -- the new name is where it was put
-pub added_start : (t u : Names) (start len : ℕ) → Added t u start len → (get_or u.starts t.count 0 ≡ start) × (get_or u.lens t.count 0 ≡ len)
-added_start t u start len a = (
-  ap (λ x. get_or x t.count 0) a.starts ∙ get_or-set_same t.starts t.count start 0 a.room,
-  ap (λ x. get_or x t.count 0) a.lens ∙ get_or-set_same t.lens t.count len 0 a.room_lens,
-)
+pub added_span : (t u : Names) (s : Span) → Added t u s → span_at u t.count ≡ s
+added_span t u s a = ap (λ x. get_or x t.count no_span) a.spans ∙ get_or-set_same t.spans t.count s no_span a.room
 
 -- the names before it are as they were
-pub added_below : (t u : Names) (start len k : ℕ) → Added t u start len → k < t.count → (get_or u.starts k 0 ≡ get_or t.starts k 0) × (get_or u.lens k 0 ≡ get_or t.lens k 0)
-added_below t u start len k a h =
-    let ne : k ≢ t.count = λ e. omega arith in (
-      ap (λ x. get_or x k 0) a.starts ∙ get_or-set_other t.starts t.count k start 0 ne,
-      ap (λ x. get_or x k 0) a.lens ∙ get_or-set_other t.lens t.count k len 0 ne,
-    )
+pub added_below : (t u : Names) (s : Span) (k : ℕ) → Added t u s → k < t.count → span_at u k ≡ span_at t k
+added_below t u s k a h = ap (λ x. get_or x k no_span) a.spans ∙ get_or-set_other t.spans t.count k s no_span (λ e. omega arith)
 
 -- the names with one more
-pub added_names : (b : List ℕ) (t u : Names) (start len : ℕ) → Added t u start len → names_in b u ≡ names_in b t ++ take len (drop start b) ∷ []
-added_names b t u start len a =
+pub added_names : (b : List ℕ) (t u : Names) (s : Span) → Added t u s → names_in b u ≡ names_in b t ++ spanned b s ∷ []
+added_names b t u s a =
     let q : u.count ≡ suc t.count = a.count ∙ add-one t.count in
-    let s = added_start t u start len a in
     ap (first_names b u) q
-    ∙ ap (λ x. x ++ name_at b u t.count ∷ []) (names_same b u t t.count (λ k h. let p = added_below t u start len k a h in ap (λ l. take l (drop (get_or u.starts k 0) b)) p.1 ∙ ap (λ j. take (get_or t.lens k 0) (drop j b)) p.0))
-    ∙ ap (λ x. first_names b t t.count ++ x ∷ []) (ap (λ l. take l (drop (get_or u.starts t.count 0) b)) s.1 ∙ ap (λ j. take len (drop j b)) s.0)
+    ∙ ap (λ x. x ++ name_at b u t.count ∷ []) (names_same b u t t.count (λ k h. ap (spanned b) (added_below t u s k a h)))
+    ∙ ap (λ x. first_names b t t.count ++ spanned b x ∷ []) (added_span t u s a)
 
--- the table stays inside the book
-pub added_inside : (b : List ℕ) (t u : Names) (start len : ℕ) → Added t u start len → Inside b t → t.count < 256 → start + len ≤ length b → Inside b u
-added_inside b t u start len a i r f = record {
-  few = omega (arith, a.count);
-  fits = λ k h. ⊎_elim
-      (λ e. let s = added_start t u start len a in subst (λ j. get_or u.starts j 0 + get_or u.lens j 0 ≤ length b) (sym e) (omega (arith, s.0, s.1)))
-      (λ ne. let p = added_below t u start len k a (omega (arith, a.count)) in omega (arith, p.0, p.1, i.fits k (omega (arith, a.count))))
-      (cases_eq k t.count);
-}
+-- whether the book has the name at the span
+abbrev pub is_name : List ℕ → Name → Span → Bool
+is_name b a s = leb (s.start + s.len) (length b) && bytes_eq (spanned b s) a
 
--- the search's steps
-pub find_here : (b : List ℕ) (t : Names) (a : Name) (i : ℕ) → i < t.count → bytes_eq (name_at b t i) a ≡ true → found_from i a (drop i (names_in b t)) ≡ Some i
-find_here b t a i h e =
-    at_drop_more (found_from i a) (names_in b t) i [] (let q = names_length b t t.count in omega arith)
-    ∙ cond-true (bytes_eq (get_or (names_in b t) i []) a) _ _ (ap (λ x. bytes_eq x a) (names_at b t t.count i h) ∙ e)
+-- a search of the spans is one of the names where their tests agree
+found_alike : (p : Span → Bool) (a : Name) (i : ℕ) (ss : List Span) (ns : List Name) → length ss ≡ length ns
+    → ((k : ℕ) → k < length ss → p (get_or ss k no_span) ≡ bytes_eq (get_or ns k []) a) → position_from p i ss ≡ found_from i a ns
+found_alike p a i [] [] e h = refl
+found_alike p a i [] (n ∷ ns) e h = absurd (omega arith)
+found_alike p a i (s ∷ ss) [] e h = absurd (omega arith)
+found_alike p a i (s ∷ ss) (n ∷ ns) e h =
+    ap (λ t. cond t (Some i) (position_from p (i + 1) ss)) (h 0 (omega arith))
+    ∙ ap (cond (bytes_eq n a) (Some i)) (found_alike p a (i + 1) ss ns (omega arith) (λ k l. h (suc k) (omega arith)))
 
--- another name here
-pub find_later : (b : List ℕ) (t : Names) (a : Name) (i : ℕ) → i < t.count → bytes_eq (name_at b t i) a ≡ false → found_from i a (drop i (names_in b t)) ≡ found_from (i + 1) a (drop (i + 1) (names_in b t))
-find_later b t a i h e =
-    at_drop_more (found_from i a) (names_in b t) i [] (let q = names_length b t t.count in omega arith)
-    ∙ cond-false (bytes_eq (get_or (names_in b t) i []) a) _ _ (ap (λ x. bytes_eq x a) (names_at b t t.count i h) ∙ e)
-
--- no name left
-pub find_none : (b : List ℕ) (t : Names) (a : Name) (i : ℕ) → t.count ≤ i → found_from i a (drop i (names_in b t)) ≡ None
-find_none b t a i h = at_drop_all (found_from i a) (names_in b t) i (let q = names_length b t t.count in omega arith)
+-- the search of the table
+pub found_span : (b : List ℕ) (t : Names) (a : Name) → Inside b t → length t.spans ≡ 256 → position_from (is_name b a) 0 (take t.count t.spans) ≡ found a (names_in b t)
+found_span b t a i l =
+    let few = i.few in
+    let n = names_length b t t.count in
+    let m : length (take t.count t.spans) ≡ t.count = simp length-take (omega arith) in
+    found_alike (is_name b a) a 0 (take t.count t.spans) (names_in b t) (m ∙ sym n) (λ k h.
+    let l : k < t.count = omega arith in
+    let z : get_or (take t.count t.spans) k no_span ≡ span_at t k = get_or-take t.count t.spans k no_span l in
+    ap (is_name b a) z ∙ ap (λ q. q && bytes_eq (name_at b t k) a) (le-leb _ _ (i.fits k l)) ∙ ap (λ x. bytes_eq x a) (sym (names_at b t t.count k l)))

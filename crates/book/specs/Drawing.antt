@@ -7,7 +7,7 @@ use Rattle.book.specs.declared.faults.BookFault.{BookFault}
 use Rattle.book.specs.declared.names.Names.{Names}
 use Rattle.book.specs.Faults.{fault_of}
 use Rattle.book.specs.Pairs.{pairs_after, tied_in}
-use Rattle.book.specs.Reading.{Entry, stations, lines_read, reading, split}
+use Rattle.book.specs.Reading.{Entry, stations, reading}
 use Rattle.book.specs.Tables.{names_in, Inside}
 
 -- a matrix of 256 stations over a whole square
@@ -33,13 +33,7 @@ pub record Beyond (old new : List ℕ) : Type 0 where
 abbrev pub Tabled : List Entry → List ℕ → Type 0
 Tabled es bytes = (x y : ℕ) → x < 256 → y < 256 → bit bytes x y ≡ cond (tied_in (pairs_after [] es) x y) 1 0
 
--- the book from its first line on: its entries in the table and in the square, or its fault
-abbrev pub LinesDone : List ℕ → Names → Matrix → Matrix → Result (Unit {0}) BookFault → Type 0
-LinesDone b t old new (Ok x) =
-    (es : List Entry) × (lines_read [] 0 1 (split 10 b) ≡ Ok es) × (names_in b t ≡ stations es) × Inside b t × Tabled es (bytes_of new) × Beyond (bytes_of old) (bytes_of new)
-LinesDone b t old new (Err f) = (lines_read [] 0 1 (split 10 b) ≡ Err (fault_of f)) × Beyond (bytes_of old) (bytes_of new)
-
--- the whole book likewise
+-- the whole book: its entries in the table and in the square, or its fault
 abbrev pub BookDone : List ℕ → Matrix → Matrix → Result Names BookFault → Type 0
 BookDone b old new (Ok t) =
     (es : List Entry) × (reading b ≡ Ok es) × (names_in b t ≡ stations es) × Inside b t × Tabled es (bytes_of new) × Beyond (bytes_of old) (bytes_of new)

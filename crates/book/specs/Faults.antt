@@ -1,5 +1,7 @@
 -- The faults by their numbers: the one table of what is wrong, in which layer, in which line and at which byte.
 use Rattle.std.specs.Prelude.{ℕ}
+use Rattle.book.specs.declared.faults.Spot.{Spot as CodeSpot}
+use Rattle.book.specs.declared.faults.Fault.{Fault as CodeFault}
 use Rattle.book.specs.declared.faults.Layer.{Layer}
 use Rattle.book.specs.declared.faults.Layer.TheVariants.{Word as word_layer, Line as line_layer, Book as book_layer}
 use Rattle.book.specs.declared.faults.WordFault.{WordFault}
@@ -9,16 +11,13 @@ use Rattle.book.specs.declared.faults.LineFault.TheVariants.{NoNewline, UnknownK
 use Rattle.book.specs.declared.faults.BookFault.{BookFault}
 use Rattle.book.specs.declared.faults.BookFault.TheVariants.{TooLarge, Line, NameGiven, NameUnknown, TieToItself, TooManyStations, NoStation}
 
--- what is wrong, by its number, and at which byte of the book, from 0
-pub record Spot : Type 0 where
-  pub layer : Layer
-  pub number : ℕ
-  pub byte : ℕ
+-- what is wrong, by its layer and number, and at which byte of the book, from 0: the code's own record
+abbrev pub Spot : Type 0
+Spot = CodeSpot
 
 -- the same with the line, from 1
-pub record Fault : Type 0 where
-  pub spot : Spot
-  pub line : ℕ
+abbrev pub Fault : Type 0
+Fault = CodeFault
 
 -- the fault of that layer and number at that byte
 abbrev pub spot_at : Layer → ℕ → ℕ → Spot

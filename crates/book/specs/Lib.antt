@@ -7,3 +7,4 @@ pub mod Drawing
 pub mod FirstFault
 pub mod Promise
 pub mod Tables
+pub mod Printing

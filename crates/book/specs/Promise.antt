@@ -52,6 +52,10 @@ pub record Rejected (book : List ℕ) (fault : BookFault) (old new : Matrix) : T
 abbrev pub of_store : Refusal → ReadError
 of_store refusal = Store refusal
 
+-- a book's fault as the reader's
+abbrev pub of_book : BookFault → ReadError
+of_book fault = Book fault
+
 -- `read`: the book is accepted or refused in an area of 8,192 bytes or more; a shorter one is refused by 9, and all is as it was
 abbrev pub Reads : List ℕ → Matrix → Matrix → Result Names ReadError → Type 0
 Reads book old new (Ok table) = (8192 ≤ length (bytes_of old)) × Accepted book table old new

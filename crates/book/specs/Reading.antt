@@ -1,5 +1,5 @@
 -- The reading of a book: its entries, or its first fault.
-use Rattle.std.specs.Prelude.{ℕ, ◌+◌, ◌-◌, Bool, true, false, cond, ◌||◌, List, [], ◌∷◌, ◌++◌, length, take, drop, Some, None, Ok, Err, Option, Result, ◌==◌, nat_lt}
+use Rattle.std.specs.Prelude.{ℕ, ◌+◌, Bool, true, false, cond, ◌||◌, List, [], ◌∷◌, ◌++◌, length, Some, None, Ok, Err, Option, Result, ◌==◌, nat_lt}
 use Rattle.std.specs.Str.{bytes_eq}
 use Rattle.book.specs.declared.faults.Layer.TheVariants.{Word as word_layer, Line as line_layer, Book as book_layer}
 use Rattle.book.specs.Faults.{Spot, Fault, spot_at, fault_in}
@@ -31,10 +31,6 @@ led p (w ∷ ws) = (p ++ w) ∷ ws
 abbrev pub split : ℕ → List ℕ → List (List ℕ)
 split c [] = [] ∷ []
 split c (b ∷ bs) = cond (b == c) ([] ∷ split c bs) (led (b ∷ []) (split c bs))
-
--- the bytes of the book from i to before j
-abbrev pub piece : List ℕ → ℕ → ℕ → List ℕ
-piece book i j = take (j - i) (drop i book)
 
 -- the first byte not allowed, the name being at `at`
 abbrev pub bad_spot : ℕ → Name → Option Spot

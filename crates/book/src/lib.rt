@@ -4,6 +4,8 @@
 pub mod faults;
 mod lines;
 pub mod names;
+mod part;
+mod printing;
 pub mod reader;
 mod words;
 

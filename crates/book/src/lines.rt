@@ -1,104 +1,89 @@
 // One line of a field book, read for its shape.
-ghost use Rattle.std.specs.Prelude.{◌≡◌, ◌+◌, ◌<◌, ◌≤◌, length, IfOk};
-ghost use Rattle.book.specs.Reading.{piece, after_s, after_t, line_read};
-ghost use Rattle.book.specs.Shown.{rest, line_shown, Placed, LineAt, NumberedLine};
+ghost use Rattle.std.specs.Prelude.{◌≡◌};
+ghost use Rattle.book.specs.Reading.{after_s, after_t, line_read};
+ghost use Rattle.book.specs.Shown.{OneWord, TwoWords, place_of, pieces_of, line_shown, LineAt, NumberedLine};
 
 use crate::faults::{FaultInLine, LineFault};
-use crate::words::{Word, name_word, piece_end, word_at};
+use crate::part::Part;
+use crate::words::Word;
 
-// A line of the right shape: a station's name, or the names of a tie.
+// A line of the right shape: a station's name, or the names of a tie. A form that the customer named.
 #[derive(Clone, Copy)]
 pub enum Line<'a> {
     Station(Word<'a>),
     Tie(Word<'a>, Word<'a>),
 }
 
-// The line at `at` after its S, which ends at w.
-fn station_line<'a>(book: &'a [u8], at: usize, w: usize, end: usize) -> Result<Line<'a>, LineFault>
-    requires { (w ≤ end) × (end ≤ length book.now) }
-    ensures read { line_shown result ≡ after_s at (w + 1) (rest 32 book.now w end) }
-    ensures placed { IfOk result (λ l. Placed book.now l) }
+// The one word that follows, if it has a byte.
+fn one_word<'a>(rest: Option<Part<'a>>) -> Option<Part<'a>>
+    ensures { OneWord rest.entry result }
 {
-    if w == end {
-        return Err(LineFault::WordCount { at });
+    let (word, more) = rest?.cut(b' ');
+    if more.is_some() || word.bytes.is_empty() {
+        return None;
     }
-    let x = piece_end(book, w + 1, end, b' ');
-    if x != end {
-        return Err(LineFault::WordCount { at });
-    }
-    if end == w + 1 {
-        return Err(LineFault::WordCount { at });
-    }
-    let p = name_word(book, w + 1, end)?;
-    Ok(Line::Station(p))
+    Some(word)
 }
 
-// The line at `at` after its T, which ends at w.
-fn tie_line<'a>(book: &'a [u8], at: usize, w: usize, end: usize) -> Result<Line<'a>, LineFault>
-    requires { (w ≤ end) × (end ≤ length book.now) }
-    ensures read { line_shown result ≡ after_t at (w + 1) (rest 32 book.now w end) }
-    ensures placed { IfOk result (λ l. Placed book.now l) }
+// The two words that follow, if each has a byte.
+fn two_words<'a>(rest: Option<Part<'a>>) -> Option<(Part<'a>, Part<'a>)>
+    ensures { TwoWords rest.entry result }
 {
-    if w == end {
-        return Err(LineFault::WordCount { at });
+    let (left, rest) = rest?.cut(b' ');
+    let right = one_word(rest)?;
+    if left.bytes.is_empty() {
+        return None;
     }
-    let x = piece_end(book, w + 1, end, b' ');
-    if x == end {
-        return Err(LineFault::WordCount { at });
-    }
-    let y = piece_end(book, x + 1, end, b' ');
-    if y != end {
-        return Err(LineFault::WordCount { at });
-    }
-    if x == w + 1 {
-        return Err(LineFault::WordCount { at });
-    }
-    if end == x + 1 {
-        return Err(LineFault::WordCount { at });
-    }
-    let p = name_word(book, w + 1, x)?;
-    let q = name_word(book, x + 1, end)?;
-    Ok(Line::Tie(p, q))
+    Some((left, right))
 }
 
-// The line from `at` to before its byte 10 at `end`.
-fn read_line<'a>(book: &'a [u8], at: usize, end: usize) -> Result<Line<'a>, LineFault>
-    requires { (at ≤ end) × (end ≤ length book.now) }
-    ensures read { line_shown result ≡ line_read at (piece book.now at end) }
-    ensures placed { IfOk result (λ l. Placed book.now l) }
+// The line at `at`, by what follows its S.
+fn station_line<'a>(at: usize, rest: Option<Part<'a>>) -> Result<Line<'a>, LineFault>
+    ensures { line_shown result ≡ after_s at (place_of rest.entry) (pieces_of 32 rest.entry) }
 {
-    let w = piece_end(book, at, end, b' ');
-    match word_at(book, at, w) {
-        Word::StationKind(_) => station_line(book, at, w, end),
-        Word::TieKind(_) => tie_line(book, at, w, end),
-        Word::Name(_) => Err(LineFault::UnknownKind { at }),
+    let name = one_word(rest).ok_or(LineFault::WordCount { at })?;
+    let name = name.name()?;
+    Ok(Line::Station(name))
+}
+
+// The line at `at`, by what follows its T.
+fn tie_line<'a>(at: usize, rest: Option<Part<'a>>) -> Result<Line<'a>, LineFault>
+    ensures { line_shown result ≡ after_t at (place_of rest.entry) (pieces_of 32 rest.entry) }
+{
+    let (left, right) = two_words(rest).ok_or(LineFault::WordCount { at })?;
+    let left = left.name()?;
+    let right = right.name()?;
+    Ok(Line::Tie(left, right))
+}
+
+// The line without its byte 10.
+fn read_line<'a>(line: Part<'a>) -> Result<Line<'a>, LineFault>
+    ensures { line_shown result ≡ line_read line.entry.at line.entry.bytes.now }
+{
+    let (kind, rest) = line.cut(b' ');
+    match kind.word() {
+        Word::StationKind(_) => station_line(line.at, rest),
+        Word::TieKind(_) => tie_line(line.at, rest),
+        Word::Name(_) => Err(LineFault::UnknownKind { at: line.at }),
     }
 }
 
-// The line at `at`, and where the next begins.
-fn line_at<'a>(book: &'a [u8], at: usize) -> Result<(Line<'a>, usize), LineFault>
-    requires { at < length book.now }
-    ensures { LineAt book.now at result }
+// The first line of the text, and what follows its byte 10.
+fn line_at<'a>(text: Part<'a>) -> Result<(Line<'a>, Part<'a>), LineFault>
+    ensures { LineAt text.entry result }
 {
-    let end = piece_end(book, at, book.len(), b'\n');
-    if end == book.len() {
-        return Err(LineFault::NoNewline { at });
-    }
-    let line = read_line(book, at, end)?;
-    Ok((line, end + 1))
+    let (line, rest) = text.cut(b'\n');
+    let rest = rest.ok_or(LineFault::NoNewline { at: text.at })?;
+    let line = read_line(line)?;
+    Ok((line, rest))
 }
 
 // The same, a fault with the line's number.
 pub(crate) fn numbered_line<'a>(
-    book: &'a [u8],
-    at: usize,
+    text: Part<'a>,
     line: usize,
-) -> Result<(Line<'a>, usize), FaultInLine>
-    requires { at < length book.now }
-    ensures { NumberedLine book.now at line result }
+) -> Result<(Line<'a>, Part<'a>), FaultInLine>
+    ensures { NumberedLine text.entry line result }
 {
-    match line_at(book, at) {
-        Ok(read) => Ok(read),
-        Err(fault) => Err(FaultInLine { fault, line }),
-    }
+    line_at(text).map_err(|fault| FaultInLine { fault, line })
 }

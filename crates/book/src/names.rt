@@ -1,14 +1,31 @@
 // The names of the stations, by where they stand in the book.
-ghost use Rattle.std.specs.Prelude.{◌≡◌, ◌+◌, ◌<◌, ◌≤◌, length, take, drop};
-ghost use Rattle.std.specs.Str.{bytes_eq};
+ghost use Rattle.std.specs.Prelude.{◌≡◌, ◌+◌, ◌<◌, ◌≤◌, length};
 ghost use Rattle.book.specs.Reading.{found};
-ghost use Rattle.book.specs.Tables.{names_in, Inside, Added, NameFound};
+ghost use Rattle.book.specs.Tables.{span_of, names_in, Inside, Added, SpanFound, NameFound};
 
-// A place and a length for each station, in the order that the book gives them.
+use crate::part::Part;
+
+// Where a name stands in a book: the place of its first byte, and how many bytes it has.
+#[derive(Clone, Copy)]
+struct Span {
+    start: usize,
+    len: usize,
+}
+
+impl Span {
+    // The name in the book, if the book has so many bytes.
+    fn of<'a>(self, book: &'a [u8]) -> Option<&'a [u8]>
+        ensures { SpanFound book.now self result }
+    {
+        book.get(self.start..)?.get(..self.len)
+    }
+}
+
+// The names of the stations, in the order that the book gives them.
+// An array with a count, since there is no heap and `Names` is `Copy`.
 #[derive(Clone, Copy)]
 pub struct Names {
-    starts: [usize; 256],
-    lens: [usize; 256],
+    spans: [Span; 256],
     count: usize,
 }
 
@@ -18,8 +35,7 @@ impl Names {
         ensures { result.count ≡ 0 }
     {
         Names {
-            starts: [0; 256],
-            lens: [0; 256],
+            spans: [Span { start: 0, len: 0 }; 256],
             count: 0,
         }
     }
@@ -35,46 +51,32 @@ impl Names {
     pub fn name<'a>(&self, book: &'a [u8], k: usize) -> Option<&'a [u8]>
         ensures { NameFound book.now self.now k result }
     {
-        if k >= self.count || k >= 256 {
+        if k >= self.count {
             return None;
         }
-        let start = self.starts[k];
-        let len = self.lens[k];
-        if start > book.len() || len > book.len() - start {
-            return None;
-        }
-        Some(&book[start..start + len])
+        self.spans.get(k)?.of(book)
     }
-}
 
-// Whether the book has the name at `start`, `len` bytes long.
-fn same_name(book: &[u8], start: usize, len: usize, name: &[u8]) -> bool
-    requires { start + len ≤ length book.now }
-    ensures { result ≡ bytes_eq (take len (drop start book.now)) name.now }
-{
-    &book[start..start + len] == name
-}
-
-// The number of the name among those given.
-pub(crate) fn find_name(book: &[u8], names: &Names, name: &[u8]) -> Option<usize>
-    requires { Inside book.now names.now }
-    ensures { result ≡ found name.now (names_in book.now names.now) }
-{
-    for i in 0..names.count {
-        if same_name(book, names.starts[i], names.lens[i], name) {
-            return Some(i);
-        }
+    // The number of the name among those given.
+    pub(crate) fn find(&self, book: &[u8], name: &[u8]) -> Option<usize>
+        requires { Inside book.now self.now }
+        ensures { result ≡ found name.now (names_in book.now self.now) }
+    {
+        self.spans[..self.count]
+            .iter()
+            .position(|span| span.of(book) == Some(name))
     }
-    None
-}
 
-// One more name.
-pub(crate) fn add_name(names: &mut Names, start: usize, len: usize)
-    requires { names.old.count < 256 }
-    ensures { Added names.old names.new start len }
-{
-    let i = names.count;
-    names.starts[i] = start;
-    names.lens[i] = len;
-    names.count = i + 1;
+    // One more name.
+    pub(crate) fn add(&mut self, name: Part<'_>)
+        requires { self.old.count < 256 }
+        ensures { Added self.old self.new (span_of name.entry) }
+    {
+        let Names { spans, count } = self;
+        spans[*count] = Span {
+            start: name.at,
+            len: name.bytes.len(),
+        };
+        *count += 1;
+    }
 }

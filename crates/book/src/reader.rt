@@ -1,93 +1,123 @@
 // Reads a field book into a matrix: its stations and ties, or its first fault.
-ghost use Rattle.std.specs.Prelude.{◌≡◌, ◌<◌, ◌≤◌, length};
+ghost use Rattle.std.specs.Prelude.{◌≡◌, ◌+◌, ◌<◌, ◌≤◌, length, drop, IfOk};
 ghost use Rattle.std.specs.Option.{option_to_list};
 ghost use Rattle.store.specs.Matrices.{bytes_of};
-ghost use Rattle.book.specs.Shown.{Stands, Placed, StationAdded, TieFound, Admitted, OneLine, Known};
+ghost use Rattle.book.specs.Shown.{Stands, Placed, StationAdded, NumberFound, TieFound, Admitted, OneLine, Known};
 ghost use Rattle.book.specs.Tables.{Inside};
-ghost use Rattle.book.specs.Drawing.{Whole, Clear, drawn, LinesDone, BookDone};
-ghost use Rattle.book.specs.Promise.{of_store, Reads};
+ghost use Rattle.book.specs.Drawing.{Whole, Clear, drawn, BookDone};
+ghost use Rattle.book.specs.Promise.{of_store, of_book, Reads};
 
 use crate::faults::BookFault;
 use crate::lines::{Line, numbered_line};
-use crate::names::{Names, add_name, find_name};
-use crate::words::Part;
+use crate::names::Names;
+use crate::part::Part;
 use store::{Matrix, Refusal, Store};
 
-// A new station joins the table.
-fn add_station(book: &[u8], names: &mut Names, p: Part<'_>, line: usize) -> Result<(), BookFault>
-    requires { (Inside book.now names.old) × (Stands book.now p) }
-    ensures { StationAdded book.now line p.entry names.old names.new result }
-{
-    if let Some(_) = find_name(book, names, p.bytes) {
-        return Err(BookFault::NameGiven { at: p.at, line });
-    }
-    if names.count() >= 256 {
-        return Err(BookFault::TooManyStations { at: p.at, line });
-    }
-    add_name(names, p.at, p.bytes.len());
-    Ok(())
+// A book as far as it has been read: the names given, what is left, and the number of its first line.
+#[derive(Drop)]
+struct Reader<'b> {
+    book: &'b [u8],
+    names: Names,
+    rest: Part<'b>,
+    line: usize,
+    ghost inside: { Inside book.now names },
+    ghost within: { rest.at ≤ length book.now },
+    ghost left: { rest.bytes.now ≡ drop rest.at book.now },
+    ghost counted: { line ≤ rest.at + 1 },
+    ghost small: { length book.now ≤ 65536 },
 }
 
-// The stations of a tie, by number.
-fn find_tie(
-    book: &[u8],
-    names: &Names,
-    p: Part<'_>,
-    q: Part<'_>,
-    line: usize,
-) -> Result<(usize, usize), BookFault>
-    requires { Inside book.now names.now }
-    ensures { TieFound book.now line p.entry q.entry names.now result }
-{
-    let Some(u) = find_name(book, names, p.bytes) else {
-        return Err(BookFault::NameUnknown { at: p.at, line });
-    };
-    let Some(v) = find_name(book, names, q.bytes) else {
-        return Err(BookFault::NameUnknown { at: q.at, line });
-    };
-    if u == v {
-        return Err(BookFault::TieToItself { at: q.at, line });
-    }
-    Ok((u, v))
-}
-
-// A station joins the table; the pair of a tie goes to the caller.
-fn admit(
-    book: &[u8],
-    names: &mut Names,
-    l: Line<'_>,
-    line: usize,
-) -> Result<Option<(usize, usize)>, BookFault>
-    requires { (Inside book.now names.old) × (Placed book.now l) }
-    ensures { Admitted book.now line l.entry names.old names.new result }
-{
-    match l {
-        Line::Station(name) => {
-            add_station(book, names, name.part(), line)?;
-            Ok(None)
-        }
-        Line::Tie(left, right) => {
-            let pair = find_tie(book, names, left.part(), right.part(), line)?;
-            Ok(Some(pair))
+impl<'b> Reader<'b> {
+    // At the start of the book.
+    fn new(book: &'b [u8]) -> Reader<'b>
+        requires { length book.now ≤ 65536 }
+        ensures book { result.book.now ≡ book.now }
+        ensures names { result.names.count ≡ 0 }
+        ensures rest { (result.rest.at ≡ 0) × (result.rest.bytes.now ≡ book.now) }
+        ensures line { result.line ≡ 1 }
+    {
+        Reader {
+            book,
+            names: Names::new(),
+            rest: Part { bytes: book, at: 0 },
+            line: 1,
         }
     }
-}
 
-// What one line gives: where the next begins, and the stations that it ties.
-#[derive(Clone, Copy)]
-struct Step {
-    next: usize,
-    tie: Option<(usize, usize)>,
-}
+    // A new station joins the names.
+    fn add_station(&mut self, name: Part<'_>) -> Result<(), BookFault>
+        requires { Stands self.old.book.now name }
+        ensures added { StationAdded self.old.book.now self.old.line name.entry self.old.names self.new.names result }
+        ensures kept { (self.new.book ≡ self.old.book) × (self.new.rest ≡ self.old.rest) × (self.new.line ≡ self.old.line) }
+    {
+        let line = self.line;
+        if self.names.find(self.book, name.bytes).is_some() {
+            return Err(BookFault::NameGiven { at: name.at, line });
+        }
+        if self.names.count() >= 256 {
+            return Err(BookFault::TooManyStations { at: name.at, line });
+        }
+        self.names.add(name);
+        Ok(())
+    }
 
-// Reads the line at `at`.
-fn next_line(book: &[u8], names: &mut Names, at: usize, line: usize) -> Result<Step, BookFault>
-    requires { (Inside book.now names.old) × (at < length book.now) }
-    ensures { OneLine book.now at line names.old names.new result }
-{
-    let (l, next) = numbered_line(book, at, line)?;
-    let tie = admit(book, names, l, line)?;
-    Ok(Step { next, tie })
+    // The number of a station that was given.
+    fn find(&self, name: Part<'_>) -> Result<usize, BookFault>
+        ensures { NumberFound self.now.book.now self.now.line name.entry self.now.names result }
+    {
+        let unknown = BookFault::NameUnknown {
+            at: name.at,
+            line: self.line,
+        };
+        self.names.find(self.book, name.bytes).ok_or(unknown)
+    }
+
+    // The stations of a tie, by number.
+    fn find_tie(&self, left: Part<'_>, right: Part<'_>) -> Result<(usize, usize), BookFault>
+        ensures { TieFound self.now.book.now self.now.line left.entry right.entry self.now.names result }
+    {
+        let u = self.find(left)?;
+        let v = self.find(right)?;
+        if u == v {
+            return Err(BookFault::TieToItself {
+                at: right.at,
+                line: self.line,
+            });
+        }
+        Ok((u, v))
+    }
+
+    // A station joins the names; the pair of a tie goes to the caller.
+    fn admit(&mut self, l: Line<'_>) -> Result<Option<(usize, usize)>, BookFault>
+        requires { Placed self.old.book.now l }
+        ensures admitted { Admitted self.old.book.now self.old.line l.entry self.old.names self.new.names result }
+        ensures kept { (self.new.book ≡ self.old.book) × (self.new.rest ≡ self.old.rest) × (self.new.line ≡ self.old.line) }
+    {
+        match l {
+            Line::Station(name) => {
+                self.add_station(name.part())?;
+                Ok(None)
+            }
+            Line::Tie(left, right) => {
+                let pair = self.find_tie(left.part(), right.part())?;
+                Ok(Some(pair))
+            }
+        }
+    }
+
+    // Reads the next line, and answers the stations that it ties, if it ties any.
+    fn next_line(&mut self) -> Result<Option<(usize, usize)>, BookFault>
+        requires { 0 < length self.old.rest.bytes.now }
+        ensures book { self.new.book ≡ self.old.book }
+        ensures line { IfOk result (λ x. self.new.line ≡ self.old.line + 1) }
+        ensures moved { OneLine self.old.book.now self.old.line self.old.rest self.new.rest self.old.names self.new.names result }
+    {
+        let (l, rest) = numbered_line(self.rest, self.line)?;
+        let tie = self.admit(l)?;
+        self.rest = rest;
+        self.line += 1;
+        Ok(tie)
+    }
 }
 
 // Ties the two stations in the matrix, if the line ties any.
@@ -102,27 +132,6 @@ fn draw(matrix: &mut Matrix<'_>, tie: Option<(usize, usize)>)
     }
 }
 
-// Every line in turn.
-fn read_lines(book: &[u8], names: &mut Names, matrix: &mut Matrix<'_>) -> Result<(), BookFault>
-    requires { (names.old.count ≡ 0) × ((length book.now ≤ 65536) × ((Whole matrix.old) × (Clear (bytes_of matrix.old)))) }
-    ensures done { LinesDone book.now names.new matrix.old matrix.new result }
-    ensures stations { matrix.new.n ≡ matrix.old.n }
-    ensures same_area { matrix.new.area.ghost_name ≡ matrix.old.area.ghost_name }
-{
-    let mut at = 0;
-    let mut line = 1;
-    while at < book.len() {
-        let step = next_line(book, names, at, line)?;
-        draw(matrix, step.tie);
-        at = step.next;
-        line += 1;
-    }
-    if names.count() == 0 {
-        return Err(BookFault::NoStation { size: book.len() });
-    }
-    Ok(())
-}
-
 // The whole book, into a matrix of 256 stations without pairs.
 fn read_book(book: &[u8], matrix: &mut Matrix<'_>) -> Result<Names, BookFault>
     requires { (Whole matrix.old) × (Clear (bytes_of matrix.old)) }
@@ -133,9 +142,15 @@ fn read_book(book: &[u8], matrix: &mut Matrix<'_>) -> Result<Names, BookFault>
     if book.len() > 65536 {
         return Err(BookFault::TooLarge { size: book.len() });
     }
-    let mut names = Names::new();
-    read_lines(book, &mut names, matrix)?;
-    Ok(names)
+    let mut reader = Reader::new(book);
+    while !reader.rest.bytes.is_empty() {
+        let tie = reader.next_line()?;
+        draw(matrix, tie);
+    }
+    if reader.names.count() == 0 {
+        return Err(BookFault::NoStation { size: book.len() });
+    }
+    Ok(reader.names)
 }
 
 // Why a book is not read: the store refuses, or the book has a fault.
@@ -150,6 +165,14 @@ impl From<Refusal> for ReadError {
 
     fn from(refusal: Refusal) -> ReadError {
         ReadError::Store(refusal)
+    }
+}
+
+impl From<BookFault> for ReadError {
+    ghost from_gives = { λ f e. e ≡ of_book f };
+
+    fn from(fault: BookFault) -> ReadError {
+        ReadError::Book(fault)
     }
 }
 
@@ -168,7 +191,7 @@ pub fn read(book: &[u8], matrix: &mut Matrix<'_>) -> Result<Names, ReadError>
         }
         Err(fault) => {
             matrix.make(size)?;
-            Err(ReadError::Book(fault))
+            Err(fault.into())
         }
     }
 }

@@ -2,13 +2,14 @@
 // in which `\n` stands for byte 10 and `\xHH` for the byte of those two hexadecimal digits.
 #![tactic(auto)]
 
-ghost use Rattle.std.specs.Prelude.{◌<◌, ◌≤◌, length};
+ghost use Rattle.std.specs.Prelude.{◌<◌, length, IfSome};
 
-use report::report;
+use arrayvec::ArrayVec;
+use report::{report, write_answer};
 use std::io;
-use std::io::{BufRead, BufReader, Write};
+use std::io::{BufRead, BufReader};
 
-// The value of a hexadecimal digit, and 0 for any other byte.
+// The value of a hexadecimal digit, and 0 for any other byte; `to_digit` would have to be unwrapped and narrowed.
 fn digit(b: u8) -> u8
     ensures { result < 16 }
 {
@@ -19,46 +20,40 @@ fn digit(b: u8) -> u8
     }
 }
 
-// The byte at `at` and how many bytes of the line stand for it.
-fn next_byte(line: &[u8], at: usize) -> (u8, usize)
-    requires { at < length line.now }
-    ensures { (1 ≤ result.1) × (result.1 ≤ 4) }
+// The first byte that the line stands for, and the rest of the line.
+fn next_byte(line: &[u8]) -> Option<(u8, &[u8])>
+    ensures { IfSome result (λ next. length next.1.now < length line.now) }
 {
-    if line[at] != b'\\' {
-        return (line[at], 1);
+    match line {
+        [] => None,
+        [b'\\', b'x', high, low, rest @ ..] => Some((digit(*high) * 16 + digit(*low), rest)),
+        [b'\\'] => Some((b'\n', &[])),
+        [b'\\', _, rest @ ..] => Some((b'\n', rest)),
+        [byte, rest @ ..] => Some((*byte, rest)),
     }
-    if line.len() - at >= 4 && line[at + 1] == b'x' {
-        return (digit(line[at + 2]) * 16 + digit(line[at + 3]), 4);
-    }
-    (b'\n', 2)
 }
 
-// The book that the line stands for; its length.
-fn unescape(line: &[u8], book: &mut [u8; 256]) -> usize
-    ensures { result ≤ 256 }
-{
-    let mut at = 0;
-    let mut len = 0;
-    while at < line.len() && len < 256 {
-        let (byte, used) = next_byte(line, at);
-        book[len] = byte;
-        len += 1;
-        at = at.saturating_add(used);
+// The book that the line stands for, of 256 bytes at most.
+fn unescape(line: &[u8]) -> ArrayVec<u8, 256> {
+    let mut book = ArrayVec::new();
+    let mut left = line;
+    while let Some((byte, rest)) = next_byte(left) {
+        if book.try_push(byte).is_err() {
+            break;
+        }
+        left = rest;
     }
-    len
+    book
 }
 
 // Prints one row of the table: the book as it stands there, and its report.
 fn print_case(rt: &HostRuntime, line: &str) -> io::Result<()> {
-    let mut book = [0u8; 256];
     let mut area = [0u8; 8192];
     let mut out = [0u8; 65536];
-    let len = unescape(line.as_bytes(), &mut book);
+    let book = unescape(line.as_bytes());
     print!(rt; "{line} => ")?;
-    match report(&book[0..len], &mut area, &mut out) {
-        Ok(written) => rt.stdout().write_all(&out[0..written]),
-        Err(refusal) => println!(rt; "refused {}", refusal.number()),
-    }
+    let answer = report(book.as_slice(), &mut area, &mut out);
+    write_answer(&mut rt.stdout(), &out, answer)
 }
 
 fn main(rt: HostRuntime) -> io::Result<()> {

@@ -2,10 +2,9 @@
 #![tactic(auto)]
 
 use input::read_whole;
-use report::judgement;
+use report::{judgement, write_answer};
 use search::{Label, ListLabel};
 use std::io;
-use std::io::Write;
 
 fn main(rt: HostRuntime) -> io::Result<()> {
     // One byte more than a book may have, so that a longer one is refused.
@@ -16,15 +15,13 @@ fn main(rt: HostRuntime) -> io::Result<()> {
     let mut strip = [0u8; 256];
     let mut marks = [0u8; 256];
     let mut out = [0u8; 65536];
-    match judgement(
-        &book[0..len],
+    let answer = judgement(
+        &book[..len],
         &mut area,
         &mut row,
         &mut strip,
         &mut marks,
         &mut out,
-    ) {
-        Ok(written) => rt.stdout().write_all(&out[0..written]),
-        Err(refusal) => println!(rt; "refused {}", refusal.number()),
-    }
+    );
+    write_answer(&mut rt.stdout(), &out, answer)
 }

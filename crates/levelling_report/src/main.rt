@@ -2,9 +2,8 @@
 #![tactic(auto)]
 
 use input::read_whole;
-use report::report;
+use report::{report, write_answer};
 use std::io;
-use std::io::Write;
 
 fn main(rt: HostRuntime) -> io::Result<()> {
     // One byte more than a book may have, so that a longer one is refused.
@@ -12,8 +11,6 @@ fn main(rt: HostRuntime) -> io::Result<()> {
     let len = read_whole(&mut rt.stdin(), &mut book)?;
     let mut area = [0u8; 8192];
     let mut out = [0u8; 65536];
-    match report(&book[0..len], &mut area, &mut out) {
-        Ok(written) => rt.stdout().write_all(&out[0..written]),
-        Err(refusal) => println!(rt; "refused {}", refusal.number()),
-    }
+    let answer = report(&book[..len], &mut area, &mut out);
+    write_answer(&mut rt.stdout(), &out, answer)
 }

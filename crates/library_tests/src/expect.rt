@@ -3,49 +3,33 @@ use report::report;
 
 // Every byte is the value.
 pub(crate) fn all(bytes: &[u8], value: u8) -> bool {
-    for b in bytes {
-        if *b != value {
-            return false;
-        }
-    }
-    true
+    bytes.iter().all(|byte| *byte == value)
 }
 
-// The byte that the table gives for place k, or else 0.
-fn byte_at(table: &[(usize, u8)], k: usize) -> u8 {
-    for row in 0..table.len() {
-        let (place, byte) = table[row];
-        if place == k {
-            return byte;
-        }
-    }
-    0
+// The byte that the table gives for the place, or else 0.
+fn byte_at(table: &[(usize, u8)], place: usize) -> u8 {
+    table
+        .iter()
+        .find(|row| row.0 == place)
+        .map_or(0, |row| row.1)
 }
 
 // The bytes are those of the table at its places, and 0 everywhere else.
 pub(crate) fn only(bytes: &[u8], table: &[(usize, u8)]) -> bool {
-    for k in 0..bytes.len() {
-        if bytes[k] != byte_at(table, k) {
-            return false;
-        }
-    }
-    true
+    bytes
+        .iter()
+        .enumerate()
+        .all(|(place, byte)| *byte == byte_at(table, place))
 }
 
 // The report writes the line into an output of bytes 9, and nothing after it.
 pub(crate) fn writes(book: &[u8], area: &mut [u8], out: &mut [u8], line: &[u8]) -> bool {
-    match report(book, area, out) {
-        Ok(length) => length == line.len() && is_written(out, line),
-        Err(_) => false,
-    }
+    report(book, area, out) == Ok(line.len()) && is_written(out, line)
 }
 
 // The output is the line and then bytes 9.
 pub(crate) fn is_written(out: &[u8], line: &[u8]) -> bool {
-    match out.strip_prefix(line) {
-        Some(rest) => all(rest, 9),
-        None => false,
-    }
+    out.strip_prefix(line).is_some_and(|rest| all(rest, 9))
 }
 
 // The matrix is empty, and the later bytes of the area are still the value.

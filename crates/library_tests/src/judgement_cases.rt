@@ -1,92 +1,99 @@
 // The judgement of small books: its text, what it leaves, and the areas, strips and rows that it refuses.
-ghost use Rattle.std.specs.Prelude.{◌≤◌};
-
-use crate::expect::{all, is_written, only};
+use crate::expect::{all, is_wiped, is_written, only};
 use report::judgement;
 use search::{CountLabel, Label};
+use store::Refusal;
 
-// The book is judged, and the output is the text and then bytes 9.
-fn tells(book: &[u8], area: &mut [u8], strip: &mut [u8], marks: &mut [u8], text: &[u8]) -> bool {
-    let mut out = [9; 65540];
-    match judgement(
-        book,
-        area,
-        &mut [CountLabel::BLANK; 256],
-        strip,
-        marks,
-        &mut out,
-    ) {
-        Ok(length) => length == text.len() && is_written(&out, text),
-        Err(_) => false,
+// What a judgement is lent: area, strip and marks longer than they have to be, and the output.
+#[derive(Drop)]
+struct Lent {
+    area: [u8; 8200],
+    strip: [u8; 260],
+    marks: [u8; 260],
+    out: [u8; 65540],
+}
+
+impl Lent {
+    // Each with bytes of its own.
+    fn new() -> Lent {
+        Lent {
+            area: [7; 8200],
+            strip: [5; 260],
+            marks: [6; 260],
+            out: [9; 65540],
+        }
+    }
+
+    // The book is judged, and the output is the text and then bytes 9.
+    fn tells(&mut self, book: &[u8], text: &[u8]) -> bool {
+        let row = &mut [CountLabel::BLANK; 256];
+        let answer = judgement(
+            book,
+            &mut self.area,
+            row,
+            &mut self.strip,
+            &mut self.marks,
+            &mut self.out,
+        );
+        answer == Ok(text.len()) && is_written(&self.out, text)
     }
 }
 
 // The judgement is the text; the strip begins with the stations, the marks are zero, and the later bytes stay.
 fn shows(book: &[u8], text: &[u8], stations: &[u8], table: &[(usize, u8)]) -> bool {
-    let mut area = [7; 8200];
-    let mut strip = [5; 260];
-    let mut marks = [6; 260];
-    let told = tells(book, &mut area, &mut strip, &mut marks, text);
-    let kept = all(&area[8192..], 7) & all(&marks[256..], 6) & all(&marks[0..256], 0);
-    let rest = match strip.strip_prefix(stations) {
-        Some(rest) => all(rest, 5),
-        None => false,
-    };
-    told & kept & rest & only(&area[0..8192], table)
+    let mut lent = Lent::new();
+    let told = lent.tells(book, text);
+    let area = only(&lent.area[0..8192], table) & all(&lent.area[8192..], 7);
+    let marks = all(&lent.marks[0..256], 0) & all(&lent.marks[256..], 6);
+    let rest = lent.strip.strip_prefix(stations);
+    told & area & marks & rest.is_some_and(|rest| all(rest, 5))
 }
 
 // The judgement of a refused book is its line; strip and marks stay, and the matrix is empty.
 fn refuses_book(book: &[u8], line: &[u8]) -> bool {
-    let mut area = [7; 8200];
-    let mut strip = [5; 260];
-    let mut marks = [6; 260];
-    let told = tells(book, &mut area, &mut strip, &mut marks, line);
-    let kept = all(&area[8192..], 7) & all(&strip, 5) & all(&marks, 6);
-    told & kept & all(&area[0..8192], 0)
+    let mut lent = Lent::new();
+    let told = lent.tells(book, line);
+    let kept = all(&lent.strip, 5) & all(&lent.marks, 6);
+    told & kept & is_wiped(&lent.area, 7)
 }
 
-// The judgement is refused by the number, and all bytes stay.
-fn stops(
-    area: &mut [u8],
-    row: &mut [CountLabel],
-    strip: &mut [u8],
-    marks: &mut [u8],
-    out: &mut [u8],
-    number: u8,
-) -> bool {
-    match judgement(b"S A\n", area, row, strip, marks, out) {
-        Ok(_) => false,
-        Err(refusal) => {
-            let kept = all(area, 7) & all(strip, 5) & all(marks, 6) & all(out, 9);
-            (refusal.number() == number) & kept
-        }
-    }
+// Which of the lent slices is one shorter than it has to be.
+#[derive(Clone, Copy)]
+struct Short {
+    area: bool,
+    out: bool,
+    row: bool,
+    strip: bool,
+    marks: bool,
 }
 
-// Areas, row, strip and marks that are so much shorter than they have to be are refused by the number.
-fn refused(
-    area_less: usize,
-    out_less: usize,
-    row_less: usize,
-    strip_less: usize,
-    marks_less: usize,
-    number: u8,
-) -> bool
-    requires { (area_less ≤ 1) × ((out_less ≤ 1) × ((row_less ≤ 1) × ((strip_less ≤ 1) × (marks_less ≤ 1)))) }
-{
+impl Short {
+    const NONE: Short = Short {
+        area: false,
+        out: false,
+        row: false,
+        strip: false,
+        marks: false,
+    };
+}
+
+// The judgement with such slices is refused, and all bytes stay.
+fn stops(short: Short, refusal: Refusal) -> bool {
     let mut area = [7; 8192];
     let mut out = [9; 65536];
     let mut row = [CountLabel::BLANK; 256];
     let mut strip = [5; 256];
     let mut marks = [6; 256];
-    stops(
-        &mut area[area_less..],
-        &mut row[row_less..],
-        &mut strip[strip_less..],
-        &mut marks[marks_less..],
-        &mut out[out_less..],
-        number,
-    )
+    let answer = judgement(
+        b"S A\n",
+        &mut area[usize::from(short.area)..],
+        &mut row[usize::from(short.row)..],
+        &mut strip[usize::from(short.strip)..],
+        &mut marks[usize::from(short.marks)..],
+        &mut out[usize::from(short.out)..],
+    );
+    let kept = all(&area, 7) & all(&strip, 5) & all(&marks, 6) & all(&out, 9);
+    (answer == Err(refusal)) & kept
 }
 
 // A square is a ring of four, in turn.
@@ -109,29 +116,67 @@ fn tells_the_ring_of_a_square(rt: HostRuntime) {
 fn tells_the_order_of_a_path(rt: HostRuntime) {
     let book = b"S North-Pier.1\nS a\nS 9\nT North-Pier.1 a\nT a 9\n";
     let text = b"chordal\n> 9\n> a\n> North-Pier.1\n";
-    assert!(rt;
-        shows(book, text, &[2, 1, 0], &[(0, 2), (32, 5), (64, 2)])
-            & shows(b"S A\n", b"chordal\n> A\n", &[0], &[])
-    );
+    assert!(rt; shows(book, text, &[2, 1, 0], &[(0, 2), (32, 5), (64, 2)]));
+    assert!(rt; shows(b"S A\n", b"chordal\n> A\n", &[0], &[]));
 }
 
 // A refused book tells its first fault.
 #[test]
 fn tells_the_fault_of_a_book(rt: HostRuntime) {
-    let empty = refuses_book(b"", b"refused 30 line 0 byte 0\n");
-    assert!(rt; empty & refuses_book(b"S A\nT A B\n", b"refused 27 line 2 byte 8\n"));
+    assert!(rt; refuses_book(b"", b"refused 30 line 0 byte 0\n"));
+    assert!(rt; refuses_book(b"S A\nT A B\n", b"refused 27 line 2 byte 8\n"));
 }
 
 // Short areas are refused by 9, also where strips are short too.
 #[test]
 fn refuses_short_areas(rt: HostRuntime) {
-    let one = refused(1, 0, 0, 0, 0, 9) & refused(0, 1, 0, 0, 0, 9);
-    assert!(rt; one & refused(1, 1, 1, 1, 1, 9) & refused(0, 1, 0, 1, 0, 9));
+    let area = Short {
+        area: true,
+        ..Short::NONE
+    };
+    let out = Short {
+        out: true,
+        ..Short::NONE
+    };
+    let all = Short {
+        area: true,
+        out: true,
+        row: true,
+        strip: true,
+        marks: true,
+    };
+    assert!(rt; stops(area, Refusal::AreaTooShort));
+    assert!(rt; stops(out, Refusal::AreaTooShort));
+    assert!(rt; stops(all, Refusal::AreaTooShort));
+    assert!(rt; stops(Short { strip: true, ..out }, Refusal::AreaTooShort));
 }
 
 // Short rows, strips and marks are refused by 11.
 #[test]
 fn refuses_short_rows_and_strips(rt: HostRuntime) {
-    let one = refused(0, 0, 1, 0, 0, 11) & refused(0, 0, 0, 1, 0, 11) & refused(0, 0, 0, 0, 1, 11);
-    assert!(rt; one & refused(0, 0, 1, 1, 1, 11));
+    let row = Short {
+        row: true,
+        ..Short::NONE
+    };
+    let strip = Short {
+        strip: true,
+        ..Short::NONE
+    };
+    let marks = Short {
+        marks: true,
+        ..Short::NONE
+    };
+    assert!(rt; stops(row, Refusal::StripTooShort));
+    assert!(rt; stops(strip, Refusal::StripTooShort));
+    assert!(rt; stops(marks, Refusal::StripTooShort));
+    assert!(rt;
+        stops(
+            Short {
+                strip: true,
+                marks: true,
+                ..row
+            },
+            Refusal::StripTooShort
+        )
+    );
 }

@@ -2,80 +2,56 @@
 use crate::expect::all;
 use store::{Matrix, Refusal, Store};
 
-// A call on a matrix.
+// A call on a matrix, and last the answer that it must give.
+// A table: with the calls in the tests themselves, a test of twelve took 25 s to prove, and closures say no more.
 #[derive(Clone, Copy)]
-pub(crate) enum Call {
-    Make(usize),
-    SetSize(usize),
-    Tie(usize, usize),
-    Lay(usize, usize),
-    Size,
-    Room,
-    Mark(usize, usize),
-    Count(u8),
+pub(crate) enum Step {
+    Make(usize, Result<(), Refusal>),
+    SetSize(usize, Result<(), Refusal>),
+    Tie(usize, usize, Result<(), Refusal>),
+    Lay(usize, usize, Result<(), Refusal>),
+    Size(usize),
+    Room(usize),
+    Mark(usize, usize, u8),
+    Count(u8, usize),
 }
 
-// Does what the call asks for, if it changes the matrix.
-fn change(matrix: &mut Matrix<'_>, call: Call) -> Result<(), Refusal> {
-    match call {
-        Call::Make(n) => matrix.make(n),
-        Call::SetSize(n) => matrix.set_size(n),
-        Call::Tie(u, v) => matrix.tie(u, v),
-        Call::Lay(u, v) => matrix.lay(u, v),
-        _ => Ok(()),
+// The call gives its answer.
+fn holds(matrix: &mut Matrix<'_>, step: &Step) -> bool {
+    match *step {
+        Step::Make(n, answer) => matrix.make(n) == answer,
+        Step::SetSize(n, answer) => matrix.set_size(n) == answer,
+        Step::Tie(u, v, answer) => matrix.tie(u, v) == answer,
+        Step::Lay(u, v, answer) => matrix.lay(u, v) == answer,
+        Step::Size(answer) => matrix.size() == answer,
+        Step::Room(answer) => matrix.room() == answer,
+        Step::Mark(u, v, answer) => matrix.mark(u, v) == answer,
+        Step::Count(mark, answer) => matrix.count(mark) == answer,
     }
 }
 
-// What the call asks of the matrix, or 0.
-fn ask(matrix: &Matrix<'_>, call: Call) -> usize {
-    match call {
-        Call::Size => matrix.size(),
-        Call::Room => matrix.room(),
-        Call::Mark(u, v) => matrix.mark(u, v) as usize,
-        Call::Count(mark) => matrix.count(mark),
-        _ => 0,
-    }
+// The calls, one after another, give their answers.
+pub(crate) fn all_hold(matrix: &mut Matrix<'_>, steps: &[Step]) -> bool {
+    steps.iter().all(|step| holds(matrix, step))
 }
 
-// What the call answers: of a call that changes the matrix, the number of its refusal or 0.
-fn answer(matrix: &mut Matrix<'_>, call: Call) -> usize {
-    match change(matrix, call) {
-        Ok(()) => ask(matrix, call),
-        Err(refusal) => refusal.number() as usize,
-    }
-}
-
-// The calls, one after another, give the answers of the table.
-pub(crate) fn answers(matrix: &mut Matrix<'_>, table: &[(Call, usize)]) -> bool {
-    for k in 0..table.len() {
-        let (call, expected) = table[k];
-        if answer(matrix, call) != expected {
-            return false;
-        }
-    }
-    true
-}
-
-// The calls on a new matrix over the area give the answers of the table.
-pub(crate) fn plays(area: &mut [u8], table: &[(Call, usize)]) -> bool {
-    let mut matrix = Matrix::over(area);
-    answers(&mut matrix, table)
+// The calls on a new matrix over the area give their answers.
+pub(crate) fn plays(area: &mut [u8], steps: &[Step]) -> bool {
+    all_hold(&mut Matrix::over(area), steps)
 }
 
 // The same over bytes 0.
-pub(crate) fn plays_over_zeros(table: &[(Call, usize)]) -> bool {
-    let mut area = [0; 8192];
-    plays(&mut area, table)
+pub(crate) fn plays_over_zeros(steps: &[Step]) -> bool {
+    plays(&mut [0; 8192], steps)
 }
 
 // The same over an area of one value, of which no byte changes.
-pub(crate) fn keeps(area: &mut [u8], value: u8, table: &[(Call, usize)]) -> bool {
+pub(crate) fn keeps(area: &mut [u8], value: u8, steps: &[Step]) -> bool {
     area.fill(value);
-    plays(area, table) && all(area, value)
+    plays(area, steps) && all(area, value)
 }
 
 // The same over 8,192 bytes of the value.
-pub(crate) fn keeps_matrix(value: u8, table: &[(Call, usize)]) -> bool {
-    let mut area = [0; 8192];
-    keeps(&mut area, value, table)
+pub(crate) fn keeps_matrix(value: u8, steps: &[Step]) -> bool {
+    keeps(&mut [0; 8192], value, steps)
 }

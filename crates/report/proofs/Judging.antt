@@ -1,8 +1,9 @@
 -- From what reading and judging promise to what the judgement promises.
-use Rattle.std.proofs.Common.{◌≡◌, ℕ, ◌-◌, ◌<◌, ◌≤◌, Bool, true, false, cond, ◌||◌, eqb, List, [], ◌∷◌, length, get_or, take, drop, sym, refl, ap, ◌∙◌, subst, inl, inr, arith, length-append}
+use Rattle.std.proofs.Common.{◌≡◌, ℕ, ◌-◌, ◌<◌, ◌≤◌, Bool, true, false, cond, ◌||◌, eqb, List, [], ◌∷◌, length, get_or, take, drop, Ok, Err, Result, sym, refl, ap, ◌∙◌, subst, inl, inr, arith, length-append}
 use Rattle.std.proofs.lemmas.List.{take_at, get_or_append_left, get_or-append_right}
 use Rattle.std.proofs.lemmas.Bool.{cases_lt}
 use Rattle.graph.specs.Graphs.{Graph, Order, at}
+use Rattle.store.specs.declared.refusal.Refusal.{Refusal}
 use Rattle.store.specs.declared.matrix.Matrix.{Matrix}
 use Rattle.store.specs.Nets.{Net, standing}
 use Rattle.store.specs.Squares.{wiped}
@@ -13,17 +14,18 @@ use Rattle.search.specs.Calls.{Says}
 use Rattle.search.specs.Searches.{SearchMade}
 use Rattle.search.specs.Strips.{zeroed, fronted}
 use Rattle.search.proofs.Standing.{moved}
-use Rattle.book.specs.declared.faults.BookFault.{BookFault}
+use Rattle.book.specs.declared.reader.ReadError.{ReadError}
+use Rattle.book.specs.declared.reader.ReadError.TheVariants.{Store, Book}
 use Rattle.book.specs.declared.names.Names.{Names}
 use Rattle.book.specs.Grammar.{Name, Lines, none, station, tie, tied}
 use Rattle.book.specs.Faults.{fault_of}
-use Rattle.book.specs.Promise.{Accepted, Rejected, Holds}
+use Rattle.book.specs.Promise.{Accepted, Reads, Holds}
 use Rattle.book.specs.Tables.{names_in}
 use Rattle.book.proofs.Table.{names_length, names_at}
-use Rattle.report.specs.Judgements.{Judged, chordal, ring, refused}
+use Rattle.report.specs.Judgements.{AreasLong, Judged, Judgements, chordal, ring, refused}
 use Rattle.report.specs.Lines.{Wrote}
-use Rattle.report.specs.Promise.{fault_line}
-use Rattle.report.specs.Verdicts.{shown, verdict_text, Named, chordal_text, ring_text}
+use Rattle.report.specs.Promise.{Explains}
+use Rattle.report.specs.Verdicts.{shown, verdict_text, Named, ShowsVerdict, chordal_text, ring_text}
 
 -- a field book's names have at most 12 bytes
 names_short : {text : List ℕ} {names : List Name} {ties : List (Name × Name)} → Lines text names ties → (u : ℕ) → u < length names → length (get_or names u []) ≤ 12
@@ -126,23 +128,39 @@ module _ {L : Type 0} (blank : L) (raise : L → ℕ → L) (less : L → L → 
   )
 
 -- what the text of a verdict asks of the strip
-pub judged_named :
+pub judged_shown :
     {L : Type 0} (blank : L) (raise : L → ℕ → L) (less : L → L → Bool) {book : List ℕ} {table : Names} {old new : Matrix} (a : Accepted book table old new)
-    (labels labels' : List L) (strip strip' : List ℕ) (v : Verdict) →
+    (labels labels' : List L) (strip strip' : List ℕ) (v : Verdict) → 256 ≤ length strip' →
     ((order : List ℕ) × SearchMade blank raise less (net_of new).size (standing (net_of new)) order labels labels'
     × Says (net_of new).size (standing (net_of new)) order strip strip' v) →
-    (shown table.count v ≤ 256) × Named book table (take (shown table.count v) strip')
-judged_named blank raise less {book} {table} a labels labels' strip strip' v m =
+    ShowsVerdict book table strip' v
+judged_shown blank raise less {book} {table} a labels labels' strip strip' v long m =
     let n = length a.names in
     let g = tied a.names a.ties in
     let made = of_book a (λ k h. SearchMade blank raise less k h m.0 labels labels') m.1 in
     let says = of_book a (λ k h. Says k h m.0 strip strip' v) m.2 in
-    subst (λ k. (shown k v ≤ 256) × Named book table (take (shown k v) strip')) (sym (count_is a))
-    (shown_few n g m.0 strip strip' v a.network.few says, named a (take (shown n v) strip') (shown_below n g m.0 strip strip' v made.searched.order says))
+    let few : shown table.count v ≤ 256 = subst (λ k. shown k v ≤ 256) (sym (count_is a)) (shown_few n g m.0 strip strip' v a.network.few says) in
+    record {
+      few = few;
+      within = omega arith;
+      named =
+          subst (λ k. Named book table (take (shown k v) strip')) (sym (count_is a))
+          (named a (take (shown n v) strip') (shown_below n g m.0 strip strip' v made.searched.order says));
+    }
 
-pub fault_judged :
-    {L : Type 0} (blank : L) (raise : L → ℕ → L) (less : L → L → Bool) (book area final : List ℕ) (labels : List L) (strip marks out out' : List ℕ) (fault : BookFault)
-    (old new : Matrix) (written : ℕ) → bytes_of old ≡ area → final ≡ bytes_of new → Rejected book fault old new → Wrote (fault_line (fault_of fault)) out out' written →
-    (text : List ℕ) × Judged blank raise less book area final labels labels strip strip marks marks text × Wrote text out out' written
-fault_judged blank raise less book area final labels strip marks out out' fault old new written begin end r w =
-    (_, refused (fault_of fault) r.first r.read r.none (end ∙ r.bytes ∙ ap wiped begin) refl refl refl, w)
+-- a book that is not read is judged by its fault, since the area is long enough for a store
+pub error_judged :
+    {L : Type 0} (blank : L) (raise : L → ℕ → L) (less : L → L → Bool) (book area final : List ℕ) (labels : List L) (strip marks out out' : List ℕ) (old new : Matrix)
+    (error : ReadError) (answer : Result ℕ Refusal) → bytes_of old ≡ area → final ≡ bytes_of new → AreasLong area out →
+    256 ≤ length strip → 256 ≤ length labels → 256 ≤ length marks → Reads book old new (Err error) → Explains error out out' answer →
+    Judgements blank raise less book area final labels labels strip strip marks marks out out' answer
+error_judged blank raise less book area final labels strip marks out out' old new (Book fault) (Ok written) begin end areas strip_long labels_long marks_long r w = (
+  areas,
+  strip_long,
+  labels_long,
+  marks_long,
+  (_, refused (fault_of fault) r.1.first r.1.read r.1.none (end ∙ r.1.bytes ∙ ap wiped begin) refl refl refl, w),
+)
+error_judged blank raise less book area final labels strip marks out out' old new (Book fault) (Err refusal) begin end areas strip_long labels_long marks_long r w = absurd w
+error_judged blank raise less book area final labels strip marks out out' old new (Store refusal) answer begin end areas strip_long labels_long marks_long r w =
+    absurd (omega (arith, ap length begin))

@@ -1,5 +1,4 @@
-mod Areas
-mod Figures
+mod Texts
 mod Reports
-pub mod StationLines
+mod StationLines
 pub mod Judging

@@ -1,4 +1,5 @@
 pub mod Lines
+pub mod Texts
 pub mod Promise
 pub mod Verdicts
 pub mod Judgements

@@ -1,5 +1,5 @@
 -- The printed lines of a verdict.
-use Rattle.std.specs.Prelude.{ℕ, ◌<◌, ◌≤◌, List, [], ◌∷◌, ◌++◌, length, codes, slice_index, slice_index_or}
+use Rattle.std.specs.Prelude.{ℕ, ◌<◌, ◌≤◌, List, [], ◌∷◌, ◌++◌, length, take, codes, slice_index, slice_index_or}
 use Rattle.book.specs.declared.names.Names.{Names}
 use Rattle.book.specs.Grammar.{Name}
 use Rattle.book.specs.Tables.{name_at, Inside}
@@ -39,3 +39,9 @@ pub record Named (book : List ℕ) (table : Names) (stations : List ℕ) : Type 
   pub inside : Inside book table
   pub known : (i : ℕ) → i < length stations → slice_index stations i < table.count
   pub short : (v : ℕ) → v < table.count → length (name_at book table v) ≤ 12
+
+-- the strip begins with the stations that show the verdict, 256 at most, and each has a name
+pub record ShowsVerdict (book : List ℕ) (table : Names) (strip : List ℕ) (verdict : Verdict) : Type 0 where
+  pub few : shown table.count verdict ≤ 256
+  pub within : shown table.count verdict ≤ length strip
+  pub named : Named book table (take (shown table.count verdict) strip)

@@ -1,9 +1,9 @@
 // The judgement of a field book's network, as text.
 ghost use Rattle.report.specs.Judgements.{Judgements};
 
+use crate::text::write_error;
 use crate::verdict::write_verdict;
-use crate::write_fault;
-use book::{ReadError, read};
+use book::read;
 use search::{Label, judge};
 use store::{Matrix, Refusal};
 
@@ -18,7 +18,7 @@ pub fn judgement<L: Label + Copy>(
     marks: &mut [u8],
     out: &mut [u8],
 ) -> Result<usize, Refusal>
-    ensures { Judgements L.blank L.raised L.less book.now area.old area.new labels.old labels.new strip.old strip.new marks.old marks.new out.old out.new result }
+    ensures { Judgements L.BLANK L.raised L.less book.now area.old area.new labels.old labels.new strip.old strip.new marks.old marks.new out.old out.new result }
 {
     if area.len() < 8192 || out.len() < 65536 {
         return Err(Refusal::AreaTooShort);
@@ -32,9 +32,6 @@ pub fn judgement<L: Label + Copy>(
             let verdict = judge(&matrix, labels, strip, marks)?;
             Ok(write_verdict(out, book, &names, strip, verdict))
         }
-        Err(error) => match error {
-            ReadError::Store(refusal) => Err(refusal),
-            ReadError::Book(fault) => Ok(write_fault(out, fault)),
-        },
+        Err(error) => write_error(out, error),
     }
 }

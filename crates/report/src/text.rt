@@ -1,71 +1,95 @@
 // Writes plain lines of text into an area that the caller lends.
-ghost use Rattle.std.specs.Prelude.{◌≡◌, ◌+◌, ◌≤◌, length, drop, decimal};
-ghost use Rattle.report.specs.Lines.{Placed, labelled, accepted_line, refused_line, Wrote};
+ghost use Rattle.std.specs.Prelude.{◌≡◌, ◌≤◌, length, decimal};
+ghost use Rattle.book.specs.Faults.{fault_of};
+ghost use Rattle.report.specs.Lines.{labelled, accepted_line, Wrote};
+ghost use Rattle.report.specs.Promise.{fault_line, Explains};
+ghost use Rattle.report.specs.Texts.{HasRoom, Extends};
 
-// Writes the text into the area from `at` on; where the text ends.
-pub(crate) fn put(out: &mut [u8], at: usize, text: &[u8]) -> usize
-    requires { at + length text.now ≤ length out.old }
-    ensures { Placed out.old at text.now out.new result }
-{
-    let end = at + text.len();
-    out[at..end].copy_from_slice(text);
-    end
+use book::{BookFault, ReadError};
+use itoa::Buffer;
+use store::Refusal;
+
+// The text that is written so far: the first `len` bytes of the area.
+#[derive(Drop)]
+pub(crate) struct Text<'a> {
+    area: &'a mut [u8],
+    len: usize,
 }
 
-// Writes the decimal digits of `n` at the end of an area of 20 bytes, which has room for every `usize`; where they begin.
-fn write_digits(digits: &mut [u8; 20], n: usize) -> usize
-    ensures within { result ≤ 20 }
-    ensures spelled { drop result digits.new ≡ decimal n }
-{
-    let mut start = 20;
-    let mut rest = n;
-    while rest >= 10 {
-        start -= 1;
-        digits[start] = b'0' + (rest % 10) as u8;
-        rest /= 10;
+impl<'a> Text<'a> {
+    // No text, at the start of the area.
+    pub(crate) fn at_start(area: &'a mut [u8]) -> Text<'a>
+        ensures same_area { result.area.ghost_name ≡ area.entry.ghost_name }
+        ensures area { result.area.now ≡ area.old }
+        ensures empty { result.len ≡ 0 }
+    {
+        Text { area, len: 0 }
     }
-    start -= 1;
-    digits[start] = b'0' + rest as u8;
-    start
-}
 
-// Writes `n` in decimal digits into the area from `at` on; where they end.
-fn put_number(out: &mut [u8], at: usize, n: usize) -> usize
-    requires { at + 20 ≤ length out.old }
-    ensures { Placed out.old at (decimal n) out.new result }
-{
-    let mut digits = [b'0'; 20];
-    let start = write_digits(&mut digits, n);
-    put(out, at, &digits[start..])
-}
+    // How many bytes the text has.
+    pub(crate) fn len(&self) -> usize
+        ensures { result ≡ self.now.len }
+    {
+        self.len
+    }
 
-// Writes a label and the number after it into the area from `at` on; where they end.
-pub(crate) fn put_labelled(out: &mut [u8], at: usize, label: &[u8], n: usize) -> usize
-    requires { at + length label.now + 20 ≤ length out.old }
-    ensures within { result ≤ at + length label.now + 20 }
-    ensures placed { Placed out.old at (labelled label.now n) out.new result }
-{
-    let end = put(out, at, label);
-    put_number(out, end, n)
+    // Adds the bytes at the end of the text.
+    pub(crate) fn push(&mut self, bytes: &[u8])
+        requires { HasRoom self.old bytes.now }
+        ensures { Extends self.old bytes.now self.new }
+    {
+        let end = self.len + bytes.len();
+        self.area[self.len..end].copy_from_slice(bytes);
+        self.len = end;
+    }
+
+    // Adds the label and the number after it, by `itoa`: no clause says that `write!` or `InlineText` writes its text whole.
+    #[tactic(auto, using(crate::proofs::Texts::few_digits))]
+    pub(crate) fn push_labelled(&mut self, label: &[u8], n: usize)
+        requires { HasRoom self.old (labelled label.now n) }
+        ensures { Extends self.old (labelled label.now n) self.new }
+    {
+        self.push(label);
+        self.push(Buffer::new().format(n).as_bytes());
+    }
 }
 
 // Writes "stations N ties M" and the end of the line at the start of the area; how many bytes that is.
+#[tactic(auto, using(crate::proofs::Texts::few_digits))]
 pub(crate) fn write_accepted(out: &mut [u8], stations: usize, ties: usize) -> usize
     requires { 64 ≤ length out.old }
     ensures { Wrote (accepted_line stations ties) out.old out.new result }
 {
-    let at = put_labelled(out, 0, b"stations ", stations);
-    let at = put_labelled(out, at, b" ties ", ties);
-    put(out, at, b"\n")
+    let mut text = Text::at_start(out);
+    text.push_labelled(b"stations ", stations);
+    text.push_labelled(b" ties ", ties);
+    text.push(b"\n");
+    text.len()
 }
 
 // Writes "refused NUMBER line LINE byte BYTE" and the end of the line at the start of the area; how many bytes that is.
-pub(crate) fn write_refused(out: &mut [u8], number: usize, line: usize, byte: usize) -> usize
+#[tactic(auto, using(crate::proofs::Texts::few_digits))]
+fn write_fault(out: &mut [u8], fault: BookFault) -> usize
     requires { 96 ≤ length out.old }
-    ensures { Wrote (refused_line number line byte) out.old out.new result }
+    ensures { Wrote (fault_line (fault_of fault)) out.old out.new result }
 {
-    let at = put_labelled(out, 0, b"refused ", number);
-    let at = put_labelled(out, at, b" line ", line);
-    let at = put_labelled(out, at, b" byte ", byte);
-    put(out, at, b"\n")
+    let line = fault.line();
+    let byte = fault.byte();
+    let mut text = Text::at_start(out);
+    text.push_labelled(b"refused ", fault.number() as usize);
+    text.push_labelled(b" line ", line);
+    text.push_labelled(b" byte ", byte);
+    text.push(b"\n");
+    text.len()
+}
+
+// Writes the line of a book's fault at the start of the area, or passes on the store's refusal.
+pub(crate) fn write_error(out: &mut [u8], error: ReadError) -> Result<usize, Refusal>
+    requires { 96 ≤ length out.old }
+    ensures { Explains error out.old out.new result }
+{
+    match error {
+        ReadError::Book(fault) => Ok(write_fault(out, fault)),
+        ReadError::Store(refusal) => Err(refusal),
+    }
 }

@@ -1,25 +1,11 @@
 -- Layers told by marks: how they begin, and how one more is marked.
-use Rattle.std.proofs.Common.{◌≡◌, ℕ, suc, ◌<◌, ◌≤◌, min, Bool, true, false, cond, ◌&&◌, eqb, ltb, ◌≢◌, ◌↔◌, List, length, drop, set, replicate, sym, ap, ◌∙◌, inl, inr, arith}
-use lib.ListN.{length-replicate}
-use Rattle.std.proofs.lemmas.List.{get_or-set_same, get_or-set_other, get_or-replicate, get_or_append_left, drop_at}
+use Rattle.std.proofs.Common.{◌≡◌, ℕ, suc, ◌<◌, ◌≤◌, Bool, true, false, cond, ◌&&◌, eqb, ltb, ◌≢◌, ◌↔◌, List, length, set, sym, ap, ◌∙◌, inl, inr, arith}
+use Rattle.std.proofs.lemmas.List.{get_or-set_same, get_or-set_other}
 use Rattle.std.proofs.lemmas.Bool.{both_ways, cases_eq, cases_lt, cases_Bool, eq-eqb, eqb-true, ne_eqb, lt-ltb, le-ltb, ltb-true, and_left, and_parts, cond-true, cond-false}
 use Rattle.graph.specs.Graphs.{Graph, at}
 use Rattle.graph.proofs.Walks.{gap_by}
 use Rattle.sets.specs.Rows.{Touched}
 use Rattle.search.specs.Layers.{level}
-use Rattle.search.specs.Strips.{zeroed}
-
-pub zeroed_at : (strip : List ℕ) (x : ℕ) → 256 ≤ length strip → x < 256 → at (zeroed strip) x ≡ 0
-unfolding zeroed
-zeroed_at strip x long l =
-    let n : length (replicate {A = ℕ} (min 256 (length strip)) 0) ≡ min 256 (length strip) = length-replicate (min 256 (length strip)) 0 in
-    get_or_append_left (replicate (min 256 (length strip)) 0) (drop 256 strip) 0 x (omega arith) ∙ get_or-replicate (min 256 (length strip)) x 0 0 (omega arith)
-
-pub zeroed_rest : (strip : List ℕ) → 256 ≤ length strip → drop 256 (zeroed strip) ≡ drop 256 strip
-unfolding zeroed
-zeroed_rest strip long =
-    let n : length (replicate {A = ℕ} (min 256 (length strip)) 0) ≡ min 256 (length strip) = length-replicate (min 256 (length strip)) 0 in
-    drop_at (replicate (min 256 (length strip)) 0) (drop 256 strip) 256 (omega arith)
 
 level_in : (strip : List ℕ) (e x : ℕ) → x < 256 → level strip e x ≡ eqb (at strip x) (suc e)
 unfolding level

@@ -1,7 +1,8 @@
 -- The steps of the loops over labels.
-use Rattle.std.proofs.Common.{◌≡◌, ℕ, suc, ◌<◌, Bool, true, false, not, ◌&&◌, eqb, ◌≢◌, List, length, get_or, set, sym, refl, ap, ◌∙◌, subst, inl, inr, arith, length-set}
-use Rattle.std.proofs.lemmas.List.{get_or-set_same, get_or-set_other, get_or_read}
+use Rattle.std.proofs.Common.{◌≡◌, ℕ, zero, suc, ◌+◌, ◌-◌, ◌<◌, Bool, true, false, not, ◌&&◌, eqb, ◌≢◌, List, [], ◌∷◌, ◌++◌, length, get_or, drop, set, sym, refl, ap, ◌∙◌, subst, inl, inr, arith, length-set}
+use Rattle.std.proofs.lemmas.List.{get_or-set_same, get_or-set_other, get_or_read, get_or_append_left, get_or-append_right, get_or-drop}
 use Rattle.std.proofs.lemmas.Bool.{both_ways, cases_eq, eq-eqb, ne_eqb, and_left, and_parts, not_from_true}
+use Rattle.std.specs.List.{FoldsTo}
 use Rattle.graph.specs.Search.{LabelLaws}
 use Rattle.graph.proofs.Searches.{peak}
 use Rattle.search.specs.Searches.{Exceeded, Blanked}
@@ -13,15 +14,23 @@ without_v left new v f = f v ∙ and_left _ _ (not_from_true _ (eq-eqb v v refl)
 pub without_other : (left new : ℕ → Bool) (v x : ℕ) → ((x : ℕ) → new x ≡ (not (eqb x v) && left x)) → x ≢ v → new x ≡ left x
 without_other left new v x f d = f x ∙ ap (λ b. not b && left x) (ne_eqb x v d)
 
-pub blank_more :
-    {L : Type 0} (blank r : L) (i j : ℕ) (was ls : List L) → Blanked blank i was ls → i < length ls → r ≡ blank → j ≡ suc i → Blanked blank j was (set ls i r)
-blank_more blank r i j was ls b l e n =
+-- what calls that give the blank label have filled
+filled_blank :
+    {F L : Type 0} (R : F → L → F → Type 0) (blank : L) → ((f : F) (r : L) (q : F) → R f r q → r ≡ blank) → (f last : F) (xs : List L) →
+    FoldsTo R f xs last → (k : ℕ) (d : L) → k < length xs → get_or xs k d ≡ blank
+filled_blank R blank e f last [] h k d l = absurd (omega arith)
+filled_blank R blank e f last (x ∷ xs) h zero d l = e f x h.0 h.1
+filled_blank R blank e f last (x ∷ xs) h (suc k) d l = filled_blank R blank e h.0 last xs h.2 k d (omega arith)
+
+pub blanked_front :
+    {F L : Type 0} (R : F → L → F → Type 0) (blank : L) → ((f : F) (r : L) (q : F) → R f r q → r ≡ blank) → (f last : F) (n : ℕ) (was front : List L) →
+    FoldsTo R f front last → length front ≡ n → Blanked blank n was (front ++ drop n was)
+blanked_front R blank e f last n was front h len =
     record {
-      first = λ k d h. elim (cases_eq k i) [
-        | inl m ↦ ap (λ x. get_or (set ls i r) x d) m ∙ get_or-set_same ls i r d l ∙ e
-        | inr m ↦ get_or-set_other ls i k r d m ∙ b.first k d (omega arith)
-      ];
-      rest = λ k d h. get_or-set_other ls i k r d (λ m. omega arith) ∙ b.rest k d (omega arith);
+      first = λ k d l. get_or_append_left front (drop n was) d k (omega arith) ∙ filled_blank R blank e f last front h k d (omega arith);
+      rest = λ k d l.
+          let m : n + (k - n) ≡ k = omega arith in
+          get_or-append_right front (drop n was) n k d len l ∙ get_or-drop n was (k - n) d ∙ ap (λ j. get_or was j d) m;
     }
 
 -- some are left, the others are raised

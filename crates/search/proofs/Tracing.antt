@@ -1,46 +1,47 @@
 -- A way through the layers, and the ring that it makes.
-use Rattle.std.proofs.Common.{◌≡◌, ℕ, zero, suc, ◌-◌, ◌<◌, ◌≤◌, Bool, true, ◌≢◌, ◌⊎◌, ◌↔◌, List, length, take, set, sym, refl, ap, ◌∙◌, subst, ap₂, inl, inr, arith}
-use Rattle.std.proofs.lemmas.List.{get_or-set_same, get_or-set_other, get_or-take, length-take}
+use Rattle.std.proofs.Common.{◌≡◌, ℕ, zero, suc, ◌-◌, ◌<◌, ◌≤◌, Bool, true, ◌≢◌, ◌⊎◌, ◌↔◌, List, [], ◌∷◌, ◌++◌, length, sym, refl, ap, ◌∙◌, subst, ap₂, inl, inr, arith, length-append}
+use Rattle.std.proofs.lemmas.List.{get_or_push, get_or_append_left}
 use Rattle.std.proofs.lemmas.Bool.{both_ways, cases_eq, cases_lt}
 use Rattle.graph.specs.Graphs.{Graph, Edge, Simple, Outside, Short, at, Ring}
 use Rattle.search.specs.Layers.{Layered, Traced}
 
 pub traced_more :
-    (g lay : Graph) (a d m p k : ℕ) (was strip : List ℕ) (x y : ℕ) → Traced g lay a d m was strip → m ≡ suc p → m ≤ d →
-    at strip (suc (d - m)) ≡ x → Edge g x y → lay p y ≡ true → k ≡ suc (suc (d - m)) → k < length strip → Traced g lay a d p was (set strip k y)
-traced_more g lay a d m p k was strip x y t e md is j l at_k long =
+    (g lay : Graph) (v a d m p : ℕ) (ring : List ℕ) (x y : ℕ) → Traced g lay v a d m ring → m ≡ suc p → m ≤ d →
+    at ring (suc (d - m)) ≡ x → Edge g x y → lay p y ≡ true → Traced g lay v a d p (ring ++ y ∷ [])
+traced_more g lay v a d m p ring x y t e md is j l =
+    let long = t.long in
     record {
-      first = other 1 (λ q. omega arith) ∙ t.first;
+      long = simp length-append (omega arith);
+      head = other 0 (omega arith) ∙ t.head;
+      first = other 1 (omega arith) ∙ t.first;
       levels = λ i q s h. elim (cases_eq q p) [
         | inl z ↦
-            let n : suc i ≡ k = omega arith in
-            ap₂ lay z (ap (λ f. at (set strip k y) f) n ∙ here) ∙ l
-        | inr z ↦ ap (λ f. lay q f) (other (suc i) (λ n. omega arith)) ∙ t.levels i q s (omega arith)
+            let n : suc i ≡ suc (suc (d - m)) = omega arith in
+            ap₂ lay z (ap (λ f. at (ring ++ y ∷ []) f) n ∙ here) ∙ l
+        | inr z ↦ ap (λ f. lay q f) (other (suc i) (omega arith)) ∙ t.levels i q s (omega arith)
       ];
-      joins = λ i h. elim (cases_eq (suc (suc i)) k) [
+      joins = λ i h. elim (cases_eq (suc (suc i)) (suc (suc (d - m)))) [
         | inl z ↦
             let n : suc i ≡ suc (d - m) = omega arith in
-            ap₂ g (other (suc i) (λ n. omega arith) ∙ ap (λ f. at strip f) n ∙ is) (ap (λ f. at (set strip k y) f) z ∙ here) ∙ j
-        | inr z ↦ ap₂ g (other (suc i) (λ n. omega arith)) (other (suc (suc i)) z) ∙ t.joins i (omega arith)
+            ap₂ g (other (suc i) (omega arith) ∙ ap (λ f. at ring f) n ∙ is) (ap (λ f. at (ring ++ y ∷ []) f) z ∙ here) ∙ j
+        | inr z ↦ ap₂ g (other (suc i) (omega arith)) (other (suc (suc i)) (omega arith)) ∙ t.joins i (omega arith)
       ];
-      head = other 0 (λ q. omega arith) ∙ t.head;
-      rest = λ f h. other f (λ q. omega arith) ∙ t.rest f h;
     }
   where
-    here : at (set strip k y) k ≡ y
-    here = get_or-set_same strip k y 0 long
+    here : at (ring ++ y ∷ []) (suc (suc (d - m))) ≡ y
+    here = let long = t.long in get_or_push ring y 0 (suc (suc (d - m))) (omega arith)
 
-    other : (f : ℕ) → f ≢ k → at (set strip k y) f ≡ at strip f
-    other f z = get_or-set_other strip k f y 0 z
+    other : (f : ℕ) → f < length ring → at (ring ++ y ∷ []) f ≡ at ring f
+    other f h = get_or_append_left ring (y ∷ []) 0 f h
 
 abbrev Zero : Type 0
 Zero = ◌≡◌ {A = ℕ} 0 0
 
 module _ {n : ℕ} {g : Graph} (s : Simple n g) {v a b : ℕ} (f : Short g v a b) (ok : ℕ → Bool)
     (is_ok : (x : ℕ) → ok x ≡ true → (x ≡ a) ⊎ ((x < n) × Outside g v x)) {lay : Graph} {d : ℕ} (h : Layered g ok a b lay d)
-    {was strip : List ℕ} (t : Traced g lay a d 0 was strip) (first : at strip 0 ≡ v) (long : suc (suc d) ≤ length strip) where
+    {ring : List ℕ} (t : Traced g lay v a d 0 ring) where
   abbrev y : ℕ → ℕ
-  y i = at strip (suc i)
+  y i = at ring (suc i)
 
   y_start : y 0 ≡ a
   y_start = t.first
@@ -150,66 +151,50 @@ module _ {n : ℕ} {g : Graph} (s : Simple n g) {v a b : ℕ} (f : Short g v a b
           inl (omega arith)
 
       from : (suc j ≡ suc (suc i)) ⊎ ((suc i ≡ 0) × (suc (suc j) ≡ suc (suc d))) → Edge g (y i) (y j)
-      from (inl m) = ap (λ x. g (at strip (suc i)) (at strip x)) m ∙ t.joins i (omega arith)
+      from (inl m) = ap (λ x. g (at ring (suc i)) (at ring x)) m ∙ t.joins i (omega arith)
       from (inr m) = let z = m.0 in absurd (omega arith)
 
-  abbrev r : List ℕ
-  r = take (suc (suc d)) strip
+  is_long : length ring ≡ suc (suc d)
+  is_long = let q = t.long in omega arith
 
-  same : (i : ℕ) → i < suc (suc d) → at r i ≡ at strip i
-  same i l = get_or-take (suc (suc d)) strip i 0 l
-
-  r_long : length r ≡ suc (suc d)
-  r_long = simp length-take (omega arith)
-
-  pub ring_made : Ring n g (take (suc (suc d)) strip)
+  pub ring_made : Ring n g ring
   ring_made =
       record {
-        long = (let l = far in let q = r_long in omega arith);
+        long = (let l = far in let q = is_long in omega arith);
         below = below;
         differ = differ;
         joins = joins;
       }
     where
-      below : (i : ℕ) → i < length r → at r i < n
-      below zero l =
-          subst (λ x. x < n) (sym (same 0 (omega arith) ∙ first)) (s.within _ _ (s.symmetric _ _ f.left))
-      below (suc i) l =
-          let q = r_long in
-          subst (λ x. x < n) (sym (same (suc i) (omega arith))) (y_below i (omega arith))
+      below : (i : ℕ) → i < length ring → at ring i < n
+      below zero l = subst (λ x. x < n) (sym t.head) (s.within _ _ (s.symmetric _ _ f.left))
+      below (suc i) l = let q = is_long in y_below i (omega arith)
 
-      differ : (i j : ℕ) → i < j → j < length r → at r i ≢ at r j
+      differ : (i j : ℕ) → i < j → j < length ring → at ring i ≢ at ring j
       differ i zero l k e = absurd (omega arith)
-      differ zero (suc j) l k e =
-          let q = r_long in
-          y_not_v j (omega arith) (sym first ∙ sym (same 0 (omega arith)) ∙ e ∙ same (suc j) (omega arith))
-      differ (suc i) (suc j) l k e =
-          let q = r_long in
-          y_differ i j (omega arith) (omega arith) (sym (same (suc i) (omega arith)) ∙ e ∙ same (suc j) (omega arith))
+      differ zero (suc j) l k e = let q = is_long in y_not_v j (omega arith) (sym t.head ∙ e)
+      differ (suc i) (suc j) l k e = let q = is_long in y_differ i j (omega arith) (omega arith) e
 
-      joins : (i j : ℕ) → i < j → j < length r → Edge g (at r i) (at r j) ↔ ((j ≡ suc i) ⊎ ((i ≡ 0) × (suc j ≡ length r)))
+      joins : (i j : ℕ) → i < j → j < length ring → Edge g (at ring i) (at ring j) ↔ ((j ≡ suc i) ⊎ ((i ≡ 0) × (suc j ≡ length ring)))
       joins i zero l k = absurd (omega arith)
       joins zero (suc j) l k =
-          let q = r_long in
-          subst (λ m. Edge g (at r 0) (at r (suc j)) ↔ ((suc j ≡ 1) ⊎ (Zero × (suc (suc j) ≡ m)))) (sym q)
-          (subst (λ e. (e ≡ true) ↔ ((suc j ≡ 1) ⊎ (Zero × (suc (suc j) ≡ suc (suc d)))))
-          (sym (ap₂ g (same 0 (omega arith) ∙ first) (same (suc j) (omega arith)))) (at_v j (omega arith)))
+          let q = is_long in
+          subst (λ m. Edge g (at ring 0) (at ring (suc j)) ↔ ((suc j ≡ 1) ⊎ (Zero × (suc (suc j) ≡ m)))) (sym q)
+          (subst (λ x. Edge g x (at ring (suc j)) ↔ ((suc j ≡ 1) ⊎ (Zero × (suc (suc j) ≡ suc (suc d))))) (sym t.head) (at_v j (omega arith)))
       joins (suc i) (suc j) l k =
-          let q = r_long in
-          subst (λ m. Edge g (at r (suc i)) (at r (suc j)) ↔ ((suc j ≡ suc (suc i)) ⊎ ((suc i ≡ 0) × (suc (suc j) ≡ m)))) (sym q)
-          (subst (λ e. (e ≡ true) ↔ ((suc j ≡ suc (suc i)) ⊎ ((suc i ≡ 0) × (suc (suc j) ≡ suc (suc d)))))
-          (sym (ap₂ g (same (suc i) (omega arith)) (same (suc j) (omega arith)))) (between i j (omega arith) (omega arith)))
+          let q = is_long in
+          subst (λ m. Edge g (at ring (suc i)) (at ring (suc j)) ↔ ((suc j ≡ suc (suc i)) ⊎ ((suc i ≡ 0) × (suc (suc j) ≡ m)))) (sym q)
+          (between i j (omega arith) (omega arith))
 
-pub traced_start :
-    (g lay : Graph) (a d : ℕ) (strip : List ℕ) → at strip 1 ≡ a → lay d a ≡ true → Traced g lay a d d strip strip
-traced_start g lay a d strip e l =
+pub traced_start : (g lay : Graph) (v a d : ℕ) (ring : List ℕ) → ring ≡ v ∷ a ∷ [] → lay d a ≡ true → Traced g lay v a d d ring
+traced_start g lay v a d ring e l =
     record {
-      first = e;
+      long = (let n = ap length e in omega arith);
+      head = ap (λ xs. at xs 0) e;
+      first = ap (λ xs. at xs 1) e;
       levels = λ i j s h.
           let z : suc i ≡ 1 = omega arith in
           let q : j ≡ d = omega arith in
-          ap₂ lay q (ap (λ k. at strip k) z ∙ e) ∙ l;
+          ap₂ lay q (ap₂ at e z) ∙ l;
       joins = λ i h. absurd (omega arith);
-      head = refl;
-      rest = λ k h. refl;
     }

@@ -1,18 +1,17 @@
 // The public calls: the order of a network by a search, and whether the network is chordal.
-ghost use Rattle.std.specs.Prelude.{◌≡◌, ◌≤◌, length, take};
+ghost use Rattle.std.specs.Prelude.{◌≡◌};
 ghost use Rattle.search.specs.Calls.{Searches, Judges};
-ghost use Rattle.search.specs.Strips.{fronted};
 
 use crate::label::Label;
 use crate::marks::Marks;
-use crate::network::rows_of;
+use crate::network::Network;
 use crate::perfect::is_perfect;
 use crate::placing::place_all;
 use crate::rings::find_ring;
 use store::{Refusal, Store};
 
-// What the judge says of a network.
-#[derive(Clone, Copy, Debug, PartialEq)]
+// What the judge says of a network. An Option<usize> would not say what None is.
+#[derive(Clone, Copy, Debug, PartialEq, Eq, Hash)]
 pub enum Verdict {
     // No ring: the strip begins with the search's order, which is perfect.
     Chordal,
@@ -27,15 +26,15 @@ pub fn search<S: Store, L: Label + Copy>(
     labels: &mut [L],
     strip: &mut [u8],
 ) -> Result<(), Refusal>
-    ensures searches { Searches L.blank L.raised L.less (S.meaning store.now) strip.old strip.new labels.old labels.new result }
+    ensures searches { Searches L.BLANK L.raised L.less (S.meaning store.now) strip.old strip.new labels.old labels.new result }
     ensures store_stays { S.meaning store.exit.now ≡ S.meaning store.entry.now }
 {
     if strip.len() < 256 || labels.len() < 256 {
         return Err(Refusal::StripTooShort);
     }
-    let n = store.size();
-    let order = place_all(&rows_of(store), n, labels);
-    put_front(strip, &order, n);
+    let network = Network::of(store);
+    let order = place_all(&network, labels);
+    order.put_front(strip);
     Ok(())
 }
 
@@ -47,29 +46,20 @@ pub fn judge<S: Store, L: Label + Copy>(
     strip: &mut [u8],
     marks: &mut [u8],
 ) -> Result<Verdict, Refusal>
-    ensures judges { Judges L.blank L.raised L.less (S.meaning store.now) strip.old strip.new labels.old labels.new marks.old marks.new result }
+    ensures judges { Judges L.BLANK L.raised L.less (S.meaning store.now) strip.old strip.new labels.old labels.new marks.old marks.new result }
     ensures store_stays { S.meaning store.exit.now ≡ S.meaning store.entry.now }
 {
     if strip.len() < 256 || labels.len() < 256 || marks.len() < 256 {
         return Err(Refusal::StripTooShort);
     }
     let guard = Marks::over(marks);
-    let n = store.size();
-    let rows = rows_of(store);
-    let order = place_all(&rows, n, labels);
-    if is_perfect(&rows, n, &order) {
-        put_front(strip, &order, n);
+    let network = Network::of(store);
+    let order = place_all(&network, labels);
+    if is_perfect(&network, &order) {
+        order.put_front(strip);
         return Ok(Verdict::Chordal);
     }
-    let (ring, length) = find_ring(&rows, n, guard.strip);
-    put_front(strip, &ring, length);
-    Ok(Verdict::Ring(length))
-}
-
-// The strip begins with the first `count` entries.
-fn put_front(strip: &mut [u8], entries: &[u8; 256], count: usize)
-    requires { (count ≤ 256) × (256 ≤ length strip.old) }
-    ensures { strip.new ≡ fronted (take count entries.now) strip.old }
-{
-    strip[0..count].copy_from_slice(&entries[0..count]);
+    let ring = find_ring(&network, guard.strip);
+    ring.put_front(strip);
+    Ok(Verdict::Ring(ring.len()))
 }

@@ -7,19 +7,35 @@ ghost use Rattle.search.specs.Lists.{list_laws};
 
 use sets::StationSet;
 
-// How a label compares with another; greater means that the other is less.
-#[derive(Clone, Copy, Debug, PartialEq)]
+// How a label compares with another; greater means that the other is less. An Option<Ordering> would have an Equal, which no kind
+// answers.
+#[derive(Clone, Copy, Debug, PartialEq, Eq, Hash)]
 pub enum Comparison {
     Less,
     Greater,
     Neither,
 }
 
+impl Comparison {
+    // How two labels compare, by whether the first is less than the second and whether the second is less than the first.
+    pub fn of(less: bool, greater: bool) -> Comparison
+        ensures { result ≡ compared less greater }
+    {
+        if less {
+            Comparison::Less
+        } else if greater {
+            Comparison::Greater
+        } else {
+            Comparison::Neither
+        }
+    }
+}
+
 // A kind of label. A search gives each station the blank label and raises it by the positions of its placed neighbours.
-pub trait Label {
+pub trait Label: Sized {
     const BLANK: Self;
 
-    ghost blank: { Self };
+    ghost BLANK: { Self };
 
     ghost raised: { Self → ℕ → Self };
 
@@ -27,7 +43,10 @@ pub trait Label {
 
     // The blank label, as BLANK is.
     fn new_blank() -> Self
-        ensures { result ≡ blank };
+        ensures { result ≡ BLANK }
+    {
+        Self::BLANK
+    }
 
     // The label raised by a position.
     fn raise(self, position: u8) -> Self
@@ -36,7 +55,7 @@ pub trait Label {
     fn compare(&self, other: &Self) -> Comparison
         ensures { result ≡ compared (less self.now other.now) (less other.now self.now) };
 
-    ghost laws: { LabelLaws blank raised less };
+    ghost laws: { LabelLaws BLANK raised less };
 }
 
 // Counts the raisings, and stays at 65,535.
@@ -48,17 +67,13 @@ pub struct CountLabel {
 impl Label for CountLabel {
     const BLANK: CountLabel = CountLabel { count: 0 };
 
-    ghost blank = { count_of 0 };
+    ghost BLANK = { count_of 0 };
 
     ghost raised = { count_raised };
 
     ghost less = { count_less };
 
     ghost laws = { count_laws };
-
-    fn new_blank() -> CountLabel {
-        Self::BLANK
-    }
 
     fn raise(self, position: u8) -> CountLabel {
         CountLabel {
@@ -67,13 +82,7 @@ impl Label for CountLabel {
     }
 
     fn compare(&self, other: &CountLabel) -> Comparison {
-        if self.count < other.count {
-            Comparison::Less
-        } else if other.count < self.count {
-            Comparison::Greater
-        } else {
-            Comparison::Neither
-        }
+        Comparison::of(self.count < other.count, other.count < self.count)
     }
 }
 
@@ -88,17 +97,13 @@ impl Label for ListLabel {
         positions: StationSet::EMPTY,
     };
 
-    ghost blank = { list_blank };
+    ghost BLANK = { list_blank };
 
     ghost raised = { list_raised };
 
     ghost less = { list_less };
 
     ghost laws = { list_laws };
-
-    fn new_blank() -> ListLabel {
-        Self::BLANK
-    }
 
     fn raise(self, position: u8) -> ListLabel {
         let mut positions = self.positions;
@@ -107,12 +112,9 @@ impl Label for ListLabel {
     }
 
     fn compare(&self, other: &ListLabel) -> Comparison {
-        if self.positions.less(other.positions) {
-            Comparison::Less
-        } else if other.positions.less(self.positions) {
-            Comparison::Greater
-        } else {
-            Comparison::Neither
-        }
+        Comparison::of(
+            self.positions.less(other.positions),
+            other.positions.less(self.positions),
+        )
     }
 }

@@ -1,5 +1,5 @@
 // A marks strip: lent bytes, one for each station, which are zero again when the work on them ends.
-ghost use Rattle.std.specs.Prelude.{◌≡◌, ℕ, ◌≤◌, ◌&&◌, length, drop as after, if◌then◌else◌, ◌==◌, nat_lt};
+ghost use Rattle.std.specs.Prelude.{◌≡◌, ℕ, ◌&&◌, if◌then◌else◌, ◌==◌, nat_lt};
 ghost use Rattle.graph.specs.Graphs.{at};
 ghost use Rattle.sets.specs.Sets.{has};
 ghost use Rattle.search.specs.Strips.{zeroed};
@@ -31,21 +31,20 @@ impl Drop for Marks<'_> {
 }
 
 // Sets the first 256 bytes to 0, or all of them where there are fewer.
-pub(crate) fn zero(strip: &mut [u8])
+fn zero(strip: &mut [u8])
     ensures { strip.new ≡ zeroed strip.old }
 {
     let end = strip.len().min(256);
-    strip[0..end].fill(0);
+    strip[..end].fill(0);
 }
 
 // The stations that have the mark.
-pub(crate) fn marked(strip: &[u8], mark: u8) -> StationSet
-    requires { 256 ≤ length strip.now }
+pub(crate) fn marked(strip: &[u8; 256], mark: u8) -> StationSet
     ensures { (x : ℕ) → has result x ≡ (nat_lt x 256 && at strip.now x == mark) }
 {
     let mut all = StationSet::empty();
-    for x in 0..256 {
-        if strip[x] == mark {
+    for (x, &m) in strip.iter().enumerate() {
+        if m == mark {
             all.insert(x as u8);
         }
     }
@@ -53,14 +52,10 @@ pub(crate) fn marked(strip: &[u8], mark: u8) -> StationSet
 }
 
 // Gives each station of the set the mark.
-pub(crate) fn mark_all(strip: &mut [u8], which: StationSet, mark: u8)
-    requires { 256 ≤ length strip.old }
-    ensures first { (x : ℕ) → at strip.new x ≡ (if has which x then mark else at strip.old x) }
-    ensures rest { after 256 strip.new ≡ after 256 strip.old }
+pub(crate) fn mark_all(strip: &mut [u8; 256], which: StationSet, mark: u8)
+    ensures { (x : ℕ) → at strip.new x ≡ (if has which x then mark else at strip.old x) }
 {
-    let mut left = which;
-    while let Some(x) = left.first() {
-        left.remove(x);
+    for x in which {
         strip[x as usize] = mark;
     }
 }

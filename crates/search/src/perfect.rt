@@ -1,38 +1,38 @@
 // Whether an order is perfect.
-ghost use Rattle.std.specs.Prelude.{◌≡◌, ◌≤◌, true, ◌↔◌, take};
+ghost use Rattle.std.specs.Prelude.{◌≡◌, true, ◌↔◌};
 ghost use Rattle.graph.specs.Graphs.{Order, Perfect};
 ghost use Rattle.sets.specs.Sets.{has};
 ghost use Rattle.sets.specs.Rows.{adj};
-ghost use Rattle.search.specs.Cliques.{Clique};
+ghost use Rattle.search.specs.Cliques.{Clique, Joined};
 
-use sets::rows::row;
-use sets::{Rows, StationSet};
+use crate::network::Network;
+use crate::stations::Stations;
+use sets::StationSet;
+
+// Whether a is a neighbour of every other member.
+fn is_joined(network: &Network, members: StationSet, a: u8) -> bool
+    ensures { (result ≡ true) ↔ Joined (adj network.now.rows) (has members) a }
+{
+    let mut apart = members.difference(network.neighbours(a));
+    apart.remove(a);
+    apart.is_empty()
+}
 
 // Whether the members are pairwise neighbours.
-fn is_clique(rows: &Rows, members: StationSet) -> bool
-    ensures { (result ≡ true) ↔ Clique (adj rows.now) (has members) }
+fn is_clique(network: &Network, members: StationSet) -> bool
+    ensures { (result ≡ true) ↔ Clique (adj network.now.rows) (has members) }
 {
-    let mut left = members;
-    while let Some(a) = left.first() {
-        left.remove(a);
-        let mut apart = members.difference(row(rows, a));
-        apart.remove(a);
-        if !apart.is_empty() {
-            return false;
-        }
-    }
-    true
+    members.into_iter().all(|a| is_joined(network, members, a))
 }
 
 // Whether the later neighbours of each station are pairwise neighbours.
-pub(crate) fn is_perfect(rows: &Rows, n: usize, order: &[u8; 256]) -> bool
-    requires { (n ≤ 256) × (Order n (take n order.now)) }
-    ensures { (result ≡ true) ↔ Perfect n (adj rows.now) (take n order.now) }
+pub(crate) fn is_perfect(network: &Network, order: &Stations) -> bool
+    requires { Order network.now.size order.now }
+    ensures { (result ≡ true) ↔ Perfect network.now.size (adj network.now.rows) order.now }
 {
     let mut later = StationSet::empty();
-    for p in (0..n).rev() {
-        let v = order[p];
-        if !is_clique(rows, row(rows, v).intersection(later)) {
+    for &v in order.as_slice().iter().rev() {
+        if !is_clique(network, network.neighbours(v).intersection(later)) {
             return false;
         }
         later.insert(v);

@@ -1,52 +1,57 @@
 // The search: stations are placed from the last position down, by their labels.
-ghost use Rattle.std.specs.Prelude.{ℕ, ◌≤◌, true, false, length, take};
-ghost use Rattle.graph.specs.Graphs.{Simple};
+ghost use Rattle.std.specs.Prelude.{ℕ, ◌≤◌, true, false, length};
 ghost use Rattle.sets.specs.Sets.{has};
 ghost use Rattle.sets.specs.Rows.{adj, In};
 ghost use Rattle.search.specs.Searches.{Unexceeded, Exceeded, Picked, Blanked, RaisedAt, SearchMade};
 
 use crate::label::{Comparison, Label};
-use sets::rows::row;
-use sets::{Rows, StationSet};
+use crate::network::Network;
+use crate::stations::Stations;
+use sets::StationSet;
 
 // The first n labels are blank again.
 fn reset<L: Label + Copy>(labels: &mut [L], n: usize)
     requires { n ≤ length labels.old }
-    ensures { Blanked L.blank n labels.old labels.new }
+    ensures { Blanked L.BLANK n labels.old labels.new }
 {
-    for v in 0..n {
-        labels[v] = L::new_blank();
-    }
+    labels[..n].fill_with(|| L::BLANK);
 }
 
-// Whether no label of the set exceeds that of v.
-fn is_unexceeded<L: Label + Copy>(labels: &[L], among: StationSet, v: u8) -> bool
-    requires { 256 ≤ length labels.now }
-    ensures { elim result [ true ↦ Unexceeded L.less labels.now (has among) v | false ↦ Exceeded L.less labels.now (has among) v ] }
-{
-    let mut left = among;
-    while let Some(k) = left.first() {
-        left.remove(k);
-        if let Comparison::Less = labels[v as usize].compare(&labels[k as usize]) {
-            return false;
-        }
-    }
-    true
+// The stations among which the next is picked, and the labels of all. The row is a slice, not a `[L; 256]`: with an array each call
+// would have to show that 256 labels fit in memory, and would forget the row's length.
+#[derive(Drop)]
+struct Choice<'a, L> {
+    labels: &'a [L],
+    among: StationSet,
+    ghost room: { 256 ≤ length labels.now },
 }
 
-// The lowest-numbered station of the set whose label no label of the set exceeds.
-fn pick<L: Label + Copy>(labels: &[L], among: StationSet) -> u8
-    requires { (256 ≤ length labels.now) × ((x : ℕ) × In among x) }
-    ensures { Picked L.less labels.now (has among) result }
-{
-    let mut left = among;
-    while let Some(v) = left.first() {
-        if is_unexceeded(labels, among, v) {
-            return v;
+impl<L: Label + Copy> Choice<'_, L> {
+    // Whether no label of the stations exceeds that of v.
+    fn is_unexceeded(&self, v: u8) -> bool
+        ensures { elim result [ true ↦ Unexceeded L.less self.now.labels.now (has self.now.among) v | false ↦ Exceeded L.less self.now.labels.now (has self.now.among) v ] }
+    {
+        // No `all`: of a closure in generic code nothing is known but what a clause of its own says again.
+        for k in self.among {
+            if let Comparison::Less = self.labels[v as usize].compare(&self.labels[k as usize]) {
+                return false;
+            }
         }
-        left.remove(v);
+        true
     }
-    unreachable()
+
+    // The lowest-numbered station whose label no label of the stations exceeds.
+    fn pick(&self) -> u8
+        requires { (x : ℕ) × In self.now.among x }
+        ensures { Picked L.less self.now.labels.now (has self.now.among) result }
+    {
+        for v in self.among {
+            if self.is_unexceeded(v) {
+                return v;
+            }
+        }
+        unreachable()
+    }
 }
 
 // Raises the label of each station of the set by the position.
@@ -54,28 +59,31 @@ fn raise_all<L: Label + Copy>(labels: &mut [L], which: StationSet, position: u8)
     requires { 256 ≤ length labels.old }
     ensures { RaisedAt L.raised position (has which) labels.old labels.new }
 {
-    let mut left = which;
-    while let Some(v) = left.first() {
-        left.remove(v);
-        let label = labels[v as usize];
-        labels[v as usize] = label.raise(position);
+    for v in which {
+        labels[v as usize] = labels[v as usize].raise(position);
     }
 }
 
-// Gives out the positions from n - 1 down to 0, each to the station that is picked, and raises its unplaced neighbours;
-// the first n entries are the order.
-pub(crate) fn place_all<L: Label + Copy>(rows: &Rows, n: usize, labels: &mut [L]) -> [u8; 256]
-    requires { (n ≤ 256) × ((256 ≤ length labels.old) × (Simple n (adj rows.now))) }
-    ensures { SearchMade L.blank L.raised L.less n (adj rows.now) (take n result) labels.old labels.new }
+// The order: the positions from n - 1 down to 0 are given out, each to the station that is picked, and its unplaced neighbours are raised.
+pub(crate) fn place_all<L: Label + Copy>(network: &Network, labels: &mut [L]) -> Stations
+    requires { 256 ≤ length labels.old }
+    ensures { SearchMade L.BLANK L.raised L.less network.now.size (adj network.now.rows) result labels.old labels.new }
 {
+    let n = network.size();
     reset(labels, n);
-    let mut order = [0; 256];
-    let mut unplaced = StationSet::below(n);
+    let mut entries = [0; 256];
+    let mut unplaced = network.stations();
+    // p is not an index alone: it is the position that is given out, which the labels are raised by.
     for p in (0..n).rev() {
-        let v = pick(labels, unplaced);
-        order[p] = v;
+        let choice = Choice {
+            labels,
+            among: unplaced,
+        };
+        let v = choice.pick();
+        entries[p] = v;
         unplaced.remove(v);
-        raise_all(labels, row(rows, v).intersection(unplaced), p as u8);
+        let near = network.neighbours(v).intersection(unplaced);
+        raise_all(labels, near, p as u8);
     }
-    order
+    Stations::first(entries, n)
 }

@@ -5,7 +5,7 @@ use crate::label::Label;
 
 // Every graph has an order of the search, and no other; if the graph is chordal, the order is perfect.
 pub fn search_orders<L: Label>()
-    ensures made { SearchedMade L.blank L.raised L.less }
-    ensures unique { SearchedUnique L.blank L.raised L.less }
-    ensures perfect { SearchPerfect L.blank L.raised L.less }
+    ensures made { SearchedMade L.BLANK L.raised L.less }
+    ensures unique { SearchedUnique L.BLANK L.raised L.less }
+    ensures perfect { SearchPerfect L.BLANK L.raised L.less }
 {}

@@ -24,17 +24,13 @@ impl Label for InclusionLabel {
         positions: StationSet::EMPTY,
     };
 
-    ghost blank = { inclusion_blank };
+    ghost BLANK = { inclusion_blank };
 
     ghost raised = { inclusion_raised };
 
     ghost less = { inclusion_less };
 
     ghost laws = { inclusion_laws };
-
-    fn new_blank() -> InclusionLabel {
-        Self::BLANK
-    }
 
     fn raise(self, position: u8) -> InclusionLabel {
         let mut positions = self.positions;
@@ -45,12 +41,6 @@ impl Label for InclusionLabel {
     fn compare(&self, other: &InclusionLabel) -> Comparison {
         let within = is_within(self.positions, other.positions);
         let around = is_within(other.positions, self.positions);
-        if within == around {
-            Comparison::Neither
-        } else if within {
-            Comparison::Less
-        } else {
-            Comparison::Greater
-        }
+        Comparison::of(within && !around, around && !within)
     }
 }

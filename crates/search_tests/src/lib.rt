@@ -1,8 +1,6 @@
 // Tests of the sets, the search and the judge as their callers see them.
 #![tactic(auto)]
 
-#[cfg(test)]
-mod calls;
 pub mod inclusion_label;
 #[cfg(test)]
 mod judge_cases;

@@ -1,75 +1,31 @@
 // Strips, rows and marks that are too short are refused by 11, and nothing changes then.
 ghost use Rattle.std.specs.Prelude.{◌≤◌};
 
-use crate::calls::{judged, searched};
 use crate::label_cases::{is_same, raised};
-use crate::networks::make_tied;
+use crate::networks::{SQUARE, make_tied};
 use crate::plain::{is_patterned, patterned};
-use search::{Label, ListLabel};
+use search::{Label, ListLabel, judge, search};
 use store::{Matrix, Refusal};
 
-// The refusal is the one for short strips.
-fn is_short(refusal: Refusal) -> bool {
-    refusal == Refusal::StripTooShort && refusal.number() == 11
+// Every label of the row is the same as the label.
+fn is_full(row: &[ListLabel], label: ListLabel) -> bool {
+    row.iter().all(|other| is_same(other, &label))
 }
 
-// The row holds the label everywhere.
-fn is_full<L: Label + Copy>(row: &[L], label: L) -> bool {
-    for k in 0..row.len() {
-        if !is_same(&row[k], &label) {
-            return false;
-        }
-    }
-    true
-}
-
-// The search with this strip and this row, full of the label, is refused, and both stay.
-fn search_stops<L: Label + Copy>(
-    matrix: &Matrix<'_>,
-    row: &mut [L],
-    label: L,
-    strip: &mut [u8],
-) -> bool {
-    match searched(matrix, row, strip) {
-        Ok(()) => false,
-        Err(refusal) => is_short(refusal) & is_patterned(strip, 0) & is_full(row, label),
-    }
-}
-
-// The judge with these is refused, and all stay.
-fn judge_stops<L: Label + Copy>(
-    matrix: &Matrix<'_>,
-    row: &mut [L],
-    label: L,
-    strip: &mut [u8],
-    marks: &mut [u8],
-) -> bool {
-    match judged(matrix, row, strip, marks) {
-        Ok(_) => false,
-        Err(refusal) => {
-            let kept = is_patterned(strip, 0) & is_patterned(marks, 0);
-            is_short(refusal) & kept & is_full(row, label)
-        }
-    }
-}
-
-// The search with strip and row of these lengths is refused.
-fn search_refused(matrix: &Matrix<'_>, strip_length: usize, row_length: usize) -> bool
+// The search with strip and row of these lengths is refused, and both stay.
+// Numbers up to 300 and no arrays from the callers: one array for each length, at each call, is no plainer.
+fn search_stops(matrix: &Matrix<'_>, strip_length: usize, row_length: usize) -> bool
     requires { (strip_length ≤ 300) × (row_length ≤ 300) }
 {
     let label = raised(ListLabel::BLANK, &[200, 100]);
     let mut row = [label; 300];
-    let mut strip = patterned();
-    search_stops(
-        matrix,
-        &mut row[0..row_length],
-        label,
-        &mut strip[0..strip_length],
-    )
+    let mut strip = patterned::<300>();
+    let answer = search(matrix, &mut row[0..row_length], &mut strip[0..strip_length]);
+    answer == Err(Refusal::StripTooShort) && is_patterned(&strip, 0) && is_full(&row, label)
 }
 
-// The judge with strip, row and marks of these lengths is refused.
-fn judge_refused(
+// The judge with strip, row and marks of these lengths is refused, and all stay.
+fn judge_stops(
     matrix: &Matrix<'_>,
     strip_length: usize,
     row_length: usize,
@@ -79,46 +35,48 @@ fn judge_refused(
 {
     let label = raised(ListLabel::BLANK, &[200, 100]);
     let mut row = [label; 300];
-    let mut strip = patterned();
-    let mut marks = patterned();
-    judge_stops(
+    let mut strip = patterned::<300>();
+    let mut marks = patterned::<300>();
+    let answer = judge(
         matrix,
         &mut row[0..row_length],
-        label,
         &mut strip[0..strip_length],
         &mut marks[0..marks_length],
-    )
+    );
+    let kept = is_patterned(&strip, 0) & is_patterned(&marks, 0) & is_full(&row, label);
+    (answer == Err(Refusal::StripTooShort)) & kept
 }
 
 // A short strip, a short row, or both.
-fn searches_refused(matrix: &Matrix<'_>) -> bool {
-    let strip = search_refused(matrix, 255, 256) & search_refused(matrix, 0, 300);
-    let row = search_refused(matrix, 256, 255) & search_refused(matrix, 300, 0);
-    strip & row & search_refused(matrix, 255, 255) & search_refused(matrix, 0, 0)
+fn searches_stop(matrix: &Matrix<'_>) -> bool {
+    let strip = search_stops(matrix, 255, 256) & search_stops(matrix, 0, 300);
+    let row = search_stops(matrix, 256, 255) & search_stops(matrix, 300, 0);
+    strip & row & search_stops(matrix, 255, 255) & search_stops(matrix, 0, 0)
 }
 
 // A short strip, a short row, short marks, or all.
-fn judges_refused(matrix: &Matrix<'_>) -> bool {
-    let strip = judge_refused(matrix, 255, 256, 256) & judge_refused(matrix, 0, 300, 300);
-    let row = judge_refused(matrix, 256, 255, 256) & judge_refused(matrix, 300, 0, 300);
-    let marks = judge_refused(matrix, 256, 256, 255) & judge_refused(matrix, 300, 300, 0);
-    let all = judge_refused(matrix, 255, 255, 255) & judge_refused(matrix, 0, 0, 0);
+fn judges_stop(matrix: &Matrix<'_>) -> bool {
+    let strip = judge_stops(matrix, 255, 256, 256) & judge_stops(matrix, 0, 300, 300);
+    let row = judge_stops(matrix, 256, 255, 256) & judge_stops(matrix, 300, 0, 300);
+    let marks = judge_stops(matrix, 256, 256, 255) & judge_stops(matrix, 300, 300, 0);
+    let all = judge_stops(matrix, 255, 255, 255) & judge_stops(matrix, 0, 0, 0);
     strip & row & marks & all
 }
 
 // Search and judge of four stations with the ties are refused.
-fn both_refused(ties: &[(usize, usize)]) -> bool {
+fn both_stop(ties: &[(usize, usize)]) -> bool {
     let mut area = [0; 8192];
     let mut matrix = Matrix::over(&mut area);
-    let made = make_tied(&mut matrix, 4, ties);
-    made & searches_refused(&matrix) & judges_refused(&matrix)
+    let made = make_tied(&mut matrix, 4, ties).is_ok();
+    made & searches_stop(&matrix) & judges_stop(&matrix)
 }
 
 // Short strips, rows and marks are refused, for a path and for a square.
 #[test]
 fn refuses_short_strips(rt: HostRuntime) {
-    let path = both_refused(&[(0, 1), (1, 2), (2, 3)]);
-    assert!(rt; path & both_refused(&[(0, 1), (1, 2), (2, 3), (3, 0)]));
+    assert_eq!(rt; Refusal::StripTooShort.number(), 11);
+    assert!(rt; both_stop(&[(0, 1), (1, 2), (2, 3)]));
+    assert!(rt; both_stop(&SQUARE));
 }
 
 // 256 entries each are enough.
@@ -126,8 +84,9 @@ fn refuses_short_strips(rt: HostRuntime) {
 fn accepts_the_shortest_strips(rt: HostRuntime) {
     let mut area = [0; 8192];
     let mut matrix = Matrix::over(&mut area);
-    let made = make_tied(&mut matrix, 256, &[(0, 255)]);
+    let made = make_tied(&mut matrix, 256, &[(0, 255)]).is_ok();
     let mut row = [ListLabel::BLANK; 256];
-    let found = searched(&matrix, &mut row, &mut [0; 256]).is_ok();
-    assert!(rt; made & found & judged(&matrix, &mut row, &mut [0; 256], &mut [0; 256]).is_ok());
+    let found = search(&matrix, &mut row, &mut [0; 256]).is_ok();
+    let judged = judge(&matrix, &mut row, &mut [0; 256], &mut [0; 256]).is_ok();
+    assert!(rt; made & found & judged);
 }

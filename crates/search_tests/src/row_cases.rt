@@ -21,36 +21,37 @@ fn square() -> Rows {
 #[test]
 fn widens_and_clears(rt: HostRuntime) {
     let mut rows = square();
-    let four = rows_hold(&rows, &[1, 3], &[0, 2], &[1, 3], &[0, 2]);
+    let four = rows_hold(&rows, [&[1, 3], &[0, 2], &[1, 3], &[0, 2]]);
     widen(&mut rows, 255, set_of(&[0, 255]));
     let last = holds(row(&rows, 255), &[0, 255])
         & holds(row(&rows, 254), &[])
         & holds(row(&rows, 3), &[0, 2]);
     clear(&mut rows);
-    assert!(rt; four & last & rows_hold(&rows, &[], &[], &[], &[]));
+    assert!(rt; four & last);
+    assert!(rt; rows_hold(&rows, [&[], &[], &[], &[]]));
 }
 
 // The stations that touch a set.
 #[test]
 fn finds_what_touches(rt: HostRuntime) {
     let rows = square();
-    let one = holds(touching(&rows, set_of(&[0])), &[1, 3]);
-    let opposite = holds(touching(&rows, set_of(&[0, 2])), &[1, 3]);
-    let next = holds(touching(&rows, set_of(&[0, 1])), &[0, 1, 2, 3]);
-    let none = holds(touching(&rows, StationSet::EMPTY), &[]);
-    assert!(rt; one & opposite & next & none & holds(touching(&rows, set_of(&[4, 255])), &[]));
+    assert!(rt; holds(touching(&rows, set_of(&[0])), &[1, 3]));
+    assert!(rt; holds(touching(&rows, set_of(&[0, 2])), &[1, 3]));
+    assert!(rt; holds(touching(&rows, set_of(&[0, 1])), &[0, 1, 2, 3]));
+    assert!(rt; holds(touching(&rows, StationSet::EMPTY), &[]));
+    assert!(rt; holds(touching(&rows, set_of(&[4, 255])), &[]));
 }
 
 // The part of a station inside a set.
 #[test]
 fn finds_parts(rt: HostRuntime) {
     let rows = square();
-    let all = holds(part_of(&rows, StationSet::below(256), 2), &[0, 1, 2, 3]);
-    let three = holds(part_of(&rows, set_of(&[0, 1, 2, 255]), 0), &[0, 1, 2]);
-    let alone = holds(part_of(&rows, set_of(&[0, 2]), 0), &[0]);
-    let untied = holds(part_of(&rows, StationSet::below(256), 255), &[255]);
-    let outside = holds(part_of(&rows, set_of(&[0, 1, 2]), 3), &[]);
-    assert!(rt; all & three & alone & untied & outside);
+    let everywhere = StationSet::below(256);
+    assert!(rt; holds(part_of(&rows, everywhere, 2), &[0, 1, 2, 3]));
+    assert!(rt; holds(part_of(&rows, set_of(&[0, 1, 2, 255]), 0), &[0, 1, 2]));
+    assert!(rt; holds(part_of(&rows, set_of(&[0, 2]), 0), &[0]));
+    assert!(rt; holds(part_of(&rows, everywhere, 255), &[255]));
+    assert!(rt; holds(part_of(&rows, set_of(&[0, 1, 2]), 3), &[]));
 }
 
 // The pairs of a border that are not neighbours.
@@ -59,13 +60,13 @@ fn notes_gaps(rt: HostRuntime) {
     let rows = square();
     let mut noted = [StationSet::EMPTY; 256];
     note_gaps(&rows, set_of(&[0, 1]), &mut noted);
-    let none = rows_hold(&noted, &[], &[], &[], &[]);
+    let none = rows_hold(&noted, [&[], &[], &[], &[]]);
     note_gaps(&rows, set_of(&[1, 3]), &mut noted);
-    let one = rows_hold(&noted, &[], &[3], &[], &[1]);
+    let one = rows_hold(&noted, [&[], &[3], &[], &[1]]);
     note_gaps(&rows, set_of(&[0, 1, 2]), &mut noted);
-    let two = rows_hold(&noted, &[2], &[3], &[0], &[1]);
+    let two = rows_hold(&noted, [&[2], &[3], &[0], &[1]]);
     note_gaps(&rows, set_of(&[0, 1, 2, 3]), &mut noted);
-    assert!(rt; none & one & two & rows_hold(&noted, &[2], &[3], &[0], &[1]));
+    assert!(rt; none & one & two & rows_hold(&noted, [&[2], &[3], &[0], &[1]]));
 }
 
 // The rows of a store hold its ties and its fill.
@@ -73,7 +74,8 @@ fn notes_gaps(rt: HostRuntime) {
 fn reads_the_rows_of_a_store(rt: HostRuntime) {
     let mut area = [255; 8192];
     let mut matrix = Matrix::over(&mut area);
-    let made = make_tied(&mut matrix, 4, &[(0, 1), (2, 3)]);
-    let laid = lay_pairs(&mut matrix, &[(2, 1), (0, 3)]);
-    assert!(rt; made & laid & rows_hold(&rows_of(&matrix), &[1, 3], &[0, 2], &[1, 3], &[0, 2]));
+    let made = make_tied(&mut matrix, 4, &[(0, 1), (2, 3)]).is_ok();
+    let laid = lay_pairs(&mut matrix, &[(2, 1), (0, 3)]).is_ok();
+    assert!(rt; made & laid);
+    assert!(rt; rows_hold(&rows_of(&matrix), [&[1, 3], &[0, 2], &[1, 3], &[0, 2]]));
 }

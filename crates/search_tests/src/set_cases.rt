@@ -46,12 +46,7 @@ fn is_less(a: &[u8], b: &[u8]) -> bool {
 // The set of the stations below n holds so many, from 0 on.
 fn is_below(n: usize, count: usize) -> bool {
     let set = StationSet::below(n);
-    for i in 0..256 {
-        if set.contains(i as u8) != (i < count) {
-            return false;
-        }
-    }
-    set.len() == count
+    (0..=255u8).all(|i| set.contains(i) == (usize::from(i) < count)) && set.len() == count
 }
 
 // A member comes and goes, alone.
@@ -60,16 +55,17 @@ fn inserts_and_removes(rt: HostRuntime) {
     for i in ENDS {
         assert!(rt; comes_and_goes(i));
     }
-    assert!(rt; holds(StationSet::EMPTY, &[]) & holds(StationSet::empty(), &[]));
+    assert!(rt; holds(StationSet::EMPTY, &[]));
+    assert!(rt; holds(StationSet::empty(), &[]));
 }
 
 // A member goes and comes, among others.
 #[test]
 fn removes_and_inserts(rt: HostRuntime) {
-    let low = goes_and_comes(0, &[63, 64, 127, 128, 191, 192, 255]);
-    let word = goes_and_comes(64, &[0, 63, 127, 128, 191, 192, 255]);
-    let inner = goes_and_comes(191, &[0, 63, 64, 127, 128, 192, 255]);
-    assert!(rt; low & word & inner & goes_and_comes(255, &[0, 63, 64, 127, 128, 191, 192]));
+    assert!(rt; goes_and_comes(0, &[63, 64, 127, 128, 191, 192, 255]));
+    assert!(rt; goes_and_comes(64, &[0, 63, 127, 128, 191, 192, 255]));
+    assert!(rt; goes_and_comes(191, &[0, 63, 64, 127, 128, 192, 255]));
+    assert!(rt; goes_and_comes(255, &[0, 63, 64, 127, 128, 191, 192]));
 }
 
 // Union, intersection and difference.
@@ -102,26 +98,47 @@ fn starts(members: &[u8], first: u8, count: usize) -> bool {
 // The lowest member and the number of members.
 #[test]
 fn finds_first_and_length(rt: HostRuntime) {
-    let low = starts(&ENDS, 0, 8) & starts(&[255, 127, 63], 63, 3) & starts(&[127, 64, 255], 64, 3);
-    let high = starts(&[192, 191], 191, 2) & starts(&[255, 192], 192, 2) & starts(&[255], 255, 1);
-    assert!(rt; low & high & starts(&[128, 255, 128], 128, 2) & (StationSet::EMPTY.len() == 0));
+    assert!(rt; starts(&ENDS, 0, 8));
+    assert!(rt; starts(&[255, 127, 63], 63, 3));
+    assert!(rt; starts(&[127, 64, 255], 64, 3));
+    assert!(rt; starts(&[192, 191], 191, 2));
+    assert!(rt; starts(&[255, 192], 192, 2));
+    assert!(rt; starts(&[255], 255, 1));
+    assert!(rt; starts(&[128, 255, 128], 128, 2));
+    assert_eq!(rt; StationSet::EMPTY.len(), 0);
 }
 
 // Of two sets, the one with the highest station in which they differ is greater.
 #[test]
 fn compares_sets(rt: HostRuntime) {
-    let lowest = is_less(&[], &[0]) & is_less(&[0], &[63]) & is_less(&[0, 63], &[64]);
-    let words = is_less(&[127], &[128]) & is_less(&[0, 63, 64, 127, 128], &[191]);
-    let last = is_less(&[191], &[192]) & is_less(&[0, 63, 64, 127, 128, 191, 192], &[255]);
-    let shared = is_less(&[255, 0], &[255, 63]) & is_less(&[255, 127, 63], &[255, 127, 64]);
-    assert!(rt; lowest & words & last & shared);
+    assert!(rt; is_less(&[], &[0]));
+    assert!(rt; is_less(&[0], &[63]));
+    assert!(rt; is_less(&[0, 63], &[64]));
+    assert!(rt; is_less(&[127], &[128]));
+    assert!(rt; is_less(&[0, 63, 64, 127, 128], &[191]));
+    assert!(rt; is_less(&[191], &[192]));
+    assert!(rt; is_less(&[0, 63, 64, 127, 128, 191, 192], &[255]));
+    assert!(rt; is_less(&[255, 0], &[255, 63]));
+    assert!(rt; is_less(&[255, 127, 63], &[255, 127, 64]));
 }
 
 // The stations below a number.
 #[test]
 fn holds_the_stations_below(rt: HostRuntime) {
-    let none = is_below(0, 0) & is_below(1, 1);
-    let words = is_below(63, 63) & is_below(64, 64) & is_below(65, 65) & is_below(128, 128);
-    let later = is_below(193, 193) & is_below(255, 255) & is_below(256, 256);
-    assert!(rt; none & words & later & is_below(1000, 256) & is_below(18446744073709551615, 256));
+    let table = [
+        (0, 0),
+        (1, 1),
+        (63, 63),
+        (64, 64),
+        (65, 65),
+        (128, 128),
+        (193, 193),
+        (255, 255),
+        (256, 256),
+        (1000, 256),
+        (18446744073709551615, 256),
+    ];
+    for (n, count) in table {
+        assert!(rt; is_below(n, count));
+    }
 }

@@ -1,48 +1,33 @@
 // The shortest strips, marks and rows, and what a call leaves in marks.
-ghost use Rattle.std.specs.Prelude.{◌≤◌};
-
-use crate::calls::judged;
-use crate::networks::make_tied;
+use crate::networks::{SQUARE, make_tied};
 use crate::plain::{all, is_clean, is_patterned, patterned};
-use search::{Label, ListLabel, Marks, Verdict};
+use search::{Label, ListLabel, Marks, Verdict, judge};
 use store::Matrix;
 
-// The judge says so in this strip with these marks, and the bytes after what it writes stay.
-fn says_in(matrix: &Matrix<'_>, strip: &mut [u8], marks: &mut [u8], expected: Verdict) -> bool {
-    match judged(matrix, &mut [ListLabel::BLANK; 256], strip, marks) {
-        Ok(verdict) => (verdict == expected) & is_patterned(strip, 4) & is_clean(marks),
-        Err(_) => false,
-    }
-}
-
-// The same for four stations with the ties, with strip and marks of these lengths.
-fn says_within(
-    ties: &[(usize, usize)],
-    strip_length: usize,
-    marks_length: usize,
-    expected: Verdict,
-) -> bool
-    requires { (strip_length ≤ 300) × (marks_length ≤ 300) }
-{
+// The judge says so of four stations with the ties, in this strip with these marks, and the bytes after what it writes stay.
+fn says_in(ties: &[(usize, usize)], strip: &mut [u8], marks: &mut [u8], expected: Verdict) -> bool {
     let mut area = [0; 8192];
     let mut matrix = Matrix::over(&mut area);
-    let made = make_tied(&mut matrix, 4, ties);
-    let mut strip = patterned();
-    let mut marks = patterned();
-    let strip_part = &mut strip[0..strip_length];
-    made && says_in(&matrix, strip_part, &mut marks[0..marks_length], expected)
+    let made = make_tied(&mut matrix, 4, ties).is_ok();
+    let labels = &mut [ListLabel::BLANK; 256];
+    let said = judge(&matrix, labels, strip, marks) == Ok(expected);
+    made & said & is_patterned(strip, 4) & is_clean(marks)
 }
 
 // Strips and marks of 256 and of 300 bytes serve alike, for an order and for a ring.
 #[test]
 fn keeps_the_other_bytes(rt: HostRuntime) {
     let path = [(0, 1), (1, 2), (2, 3)];
-    let ring = [(0, 1), (1, 2), (2, 3), (3, 0)];
-    let shortest = says_within(&path, 256, 256, Verdict::Chordal);
-    let longer = says_within(&path, 300, 300, Verdict::Chordal);
-    let ring_shortest = says_within(&ring, 256, 256, Verdict::Ring(4));
-    let ring_longer = says_within(&ring, 300, 300, Verdict::Ring(4));
-    assert!(rt; shortest & longer & ring_shortest & ring_longer);
+    let table = [
+        (path.as_slice(), Verdict::Chordal),
+        (SQUARE.as_slice(), Verdict::Ring(4)),
+    ];
+    for (ties, expected) in table {
+        let (strip, marks) = (&mut patterned::<256>(), &mut patterned::<256>());
+        assert!(rt; says_in(ties, strip, marks, expected));
+        let (strip, marks) = (&mut patterned::<300>(), &mut patterned::<300>());
+        assert!(rt; says_in(ties, strip, marks, expected));
+    }
 }
 
 // A guard over the strip that is let go at once.
@@ -57,17 +42,13 @@ fn cleans(strip: &mut [u8]) -> bool {
     all(&strip[0..end], 0) && is_patterned(strip, end)
 }
 
-// The same for a strip of the length.
-fn cleans_first(length: usize) -> bool
-    requires { «length» ≤ 300 }
-{
-    let mut strip = patterned();
-    cleans(&mut strip[0..length])
-}
-
 // Marks are 0 again once their guard is let go, however short the strip is.
 #[test]
 fn guards_marks(rt: HostRuntime) {
-    let short = cleans_first(0) & cleans_first(1) & cleans_first(255);
-    assert!(rt; short & cleans_first(256) & cleans_first(257) & cleans_first(300));
+    assert!(rt; cleans(&mut patterned::<0>()));
+    assert!(rt; cleans(&mut patterned::<1>()));
+    assert!(rt; cleans(&mut patterned::<255>()));
+    assert!(rt; cleans(&mut patterned::<256>()));
+    assert!(rt; cleans(&mut patterned::<257>()));
+    assert!(rt; cleans(&mut patterned::<300>()));
 }

@@ -1,7 +1,10 @@
 pub mod Words
 pub mod Sizes
 pub mod Members
+pub mod Lexical
 pub mod Written
 pub mod Gather
 pub mod Reach
 pub mod Upto
+pub mod Rising
+pub mod InTurn

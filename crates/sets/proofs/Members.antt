@@ -1,14 +1,15 @@
 -- The members of a set, from the bits of its four words.
 use Rattle.std.proofs.Common.{◌≡◌, ℕ, zero, suc, ◌+◌, ◌-◌, ◌*◌, ◌/◌, ◌%◌, ◌^◌, ◌<◌, ◌≤◌, min, Bool, true, false, not, ◌&&◌, ◌||◌, eqb, ltb, ◌≢◌, ◌⊎◌, List, [], ◌∷◌, length, get_or, set, sym, refl, ap, ◌∙◌, subst, ap₂, inl, inr, arith}
+use Rattle.std.specs.List.{sum_by}
 use lib.Bits.{bit_and, bit_or}
-use lib.Count.{ones, count_trailing_zeros}
+use lib.Count.{count_trailing_zeros}
 use Rattle.std.proofs.lemmas.Nat.{pow_below, one_shl}
 use Rattle.std.proofs.lemmas.List.{get_or-set_same, get_or-set_other}
 use Rattle.std.proofs.lemmas.Bool.{eq-eqb, ne_eqb, cases_eq, cases_lt, cases_order, lt-ltb, le-ltb, both_ways}
 use Rattle.sets.specs.declared.station_set.StationSet.{StationSet}
 use Rattle.sets.specs.Sets.{bit, has, size, Nobody, Lowest, Less}
-use Rattle.sets.proofs.Words.{bit_of_or, bit_of_and, bit_not, bit_power, bit_ones, none_set, no_bits, lowest_bit, size_bits, size_same, less_bit}
-use Rattle.sets.proofs.Sizes.{size_add}
+use Rattle.sets.proofs.Words.{bit_of_or, bit_of_and, bit_not, bit_power, bit_ones, none_set, lowest_bit, size_same, less_bit}
+use Rattle.sets.proofs.Sizes.{size_add, size_none}
 
 -- bit i of a list of words
 abbrev pub word : List ℕ → ℕ → ℕ
@@ -114,10 +115,8 @@ lowest_word s k l f h d =
       ];
     }
 
-pub size_word :
-    (s : StationSet) (k : ℕ) → k < 4 → word s.words k < 2 ^ 64 →
-    size (has s) (64 * k) + ones (word s.words k) ≡ size (has s) (64 * (k + 1))
-size_word s k l h =
+size_word : (s : StationSet) (k : ℕ) → k < 4 → size (has s) (64 * k) + size (bit (word s.words k)) 64 ≡ size (has s) (64 * (k + 1))
+size_word s k l =
     let e : 64 * (k + 1) ≡ 64 + 64 * k = omega arith in
     sym (
     ap (size (has s)) e
@@ -125,8 +124,26 @@ size_word s k l h =
     ∙ ap (λ n. size (has s) (64 * k) + n) (size_same _ _ 64 (λ i b.
     let a : (i + 64 * k) / 64 ≡ k = omega arith in
     let m : (i + 64 * k) % 64 ≡ i = omega arith in
-    has_in s (i + 64 * k) (omega arith) ∙ ap₂ (λ q j. bit (word s.words q) j) a m) ∙ size_bits 64 (word s.words k) h)
+    has_in s (i + 64 * k) (omega arith) ∙ ap₂ (λ q j. bit (word s.words q) j) a m))
     )
+
+-- four words, one by one
+spelled : (ws : List ℕ) → length ws ≡ 4 → ws ≡ word ws 0 ∷ word ws 1 ∷ word ws 2 ∷ word ws 3 ∷ []
+spelled [] n = absurd (omega arith)
+spelled (a ∷ []) n = absurd (omega arith)
+spelled (a ∷ b ∷ []) n = absurd (omega arith)
+spelled (a ∷ b ∷ c ∷ []) n = absurd (omega arith)
+spelled (a ∷ b ∷ c ∷ d ∷ []) n = refl
+spelled (a ∷ b ∷ c ∷ d ∷ e ∷ es) n = absurd (omega arith)
+
+-- the bits of the words together
+pub size_words : (s : StationSet) → length s.words ≡ 4 → sum_by (λ w. size (bit w) 64) s.words ≡ size (has s) 256
+size_words s n =
+    let a : size (has s) 0 + size (bit (word s.words 0)) 64 ≡ size (has s) 64 = size_word s 0 (omega arith) in
+    let b : size (has s) 64 + size (bit (word s.words 1)) 64 ≡ size (has s) 128 = size_word s 1 (omega arith) in
+    let c : size (has s) 128 + size (bit (word s.words 2)) 64 ≡ size (has s) 192 = size_word s 2 (omega arith) in
+    let d : size (has s) 192 + size (bit (word s.words 3)) 64 ≡ size (has s) 256 = size_word s 3 (omega arith) in
+    ap (sum_by (λ w. size (bit w) 64)) (spelled s.words n) ∙ omega (arith, a, b, c, d, size_none (has s))
 
 pub empty_has : (i : ℕ) → has (of (0 ∷ 0 ∷ 0 ∷ 0 ∷ [])) i ≡ false
 empty_has = none_words (of (0 ∷ 0 ∷ 0 ∷ 0 ∷ [])) (four (λ q. word (0 ∷ 0 ∷ 0 ∷ 0 ∷ []) q ≡ 0) refl refl refl refl)
@@ -136,24 +153,6 @@ nobody_has = none_words (of []) (four (λ q. word [] q ≡ 0) refl refl refl ref
 
 pub has_below : (s : StationSet) (i : ℕ) → has s i ≡ true → i < 256
 has_below s i e = elim (cases_lt i 256) [ inl l ↦ l | inr l ↦ absurd (both_ways _ (has_past s i l) e) ]
-
-abbrev less : ℕ → ℕ → ℕ
-less a b = bit_and a (2 ^ 64 - 1 - b)
-
-pub differs :
-    (s t : StationSet) → word t.words 0 < 2 ^ 64 → word t.words 1 < 2 ^ 64 → word t.words 2 < 2 ^ 64 → word t.words 3 < 2 ^ 64 → (i : ℕ) →
-    has (of (less (word s.words 0) (word t.words 0) ∷ less (word s.words 1) (word t.words 1) ∷ less (word s.words 2) (word t.words 2) ∷ less (word s.words 3) (word t.words 3) ∷ [])) i
-    ≡ (has s i && not (has t i))
-differs s t a b c d = lift (of ws) s t (λ x y. x && not y) (four P (each 0 a) (each 1 b) (each 2 c) (each 3 d)) refl
-  where
-    ws : List ℕ
-    ws = less (word s.words 0) (word t.words 0) ∷ less (word s.words 1) (word t.words 1) ∷ less (word s.words 2) (word t.words 2) ∷ less (word s.words 3) (word t.words 3) ∷ []
-
-    P : ℕ → Type 0
-    P q = (k : ℕ) → k < 64 → bit (word ws q) k ≡ (bit (word s.words q) k && not (bit (word t.words q) k))
-
-    each : (q : ℕ) → word t.words q < 2 ^ 64 → (k : ℕ) → k < 64 → bit (less (word s.words q) (word t.words q)) k ≡ (bit (word s.words q) k && not (bit (word t.words q) k))
-    each q h k l = less_bits _ _ k l h
 
 and_all : (x : Bool) → x ≡ (true && x)
 and_all true = refl
@@ -169,10 +168,10 @@ pub removed :
     (s : StationSet) (i : ℕ) → i < 256 → length s.words ≡ 4 → (j : ℕ) →
     has (of (set s.words (i / 64) (bit_and (word s.words (i / 64)) (2 ^ 64 - 1 - (1 * 2 ^ (i % 64)) % 2 ^ 64)))) j ≡ (not (eqb j i) && has s j)
 removed s i h n j =
-    ap (λ x. has (of (set s.words (i / 64) (less (word s.words (i / 64)) x))) j) (one_shl (i % 64) 64 (omega arith)) ∙ go (cases_lt j 256) (cases_eq (j / 64) (i / 64))
+    ap (λ x. has (of (set s.words (i / 64) (bit_and (word s.words (i / 64)) (2 ^ 64 - 1 - x)))) j) (one_shl (i % 64) 64 (omega arith)) ∙ go (cases_lt j 256) (cases_eq (j / 64) (i / 64))
   where
     new : ℕ
-    new = less (word s.words (i / 64)) (2 ^ (i % 64))
+    new = bit_and (word s.words (i / 64)) (2 ^ 64 - 1 - 2 ^ (i % 64))
 
     go : (j < 256) ⊎ (256 ≤ j) → (j / 64 ≡ i / 64) ⊎ (j / 64 ≡ i / 64 → ⊥) → has (of (set s.words (i / 64) new)) j ≡ (not (eqb j i) && has s j)
     go (inr p) e = has_past _ j p ∙ sym (ap₂ (λ x y. not x && y) (ne_eqb j i (λ q. omega arith)) (has_past s j p))
@@ -195,9 +194,6 @@ has_at s k j l h =
     let a : (64 * k + j) / 64 ≡ k = omega arith in
     let b : (64 * k + j) % 64 ≡ j = omega arith in
     has_in s (64 * k + j) (omega arith) ∙ ap₂ (λ q j. bit (word s.words q) j) a b
-
-pub none_word : (s : StationSet) (k : ℕ) → k < 4 → word s.words k < 2 ^ 64 → Nobody s → word s.words k ≡ 0
-none_word s k l h f = no_bits 64 (word s.words k) h (λ j b. sym (has_at s k j l b) ∙ f (64 * k + j))
 
 pub less_word :
     (s t : StationSet) (k : ℕ) → k < 4 → word t.words k < 2 ^ 64 → ((q : ℕ) → k < q → q < 4 → word s.words q ≡ word t.words q) →
@@ -244,34 +240,13 @@ pub filled_all : (n : ℕ) → 64 ≤ n → (k : ℕ) → k < 64 → bit (2 ^ 64
 filled_all n h k l = bit_ones 64 k ∙ lt-ltb k 64 l ∙ sym (lt-ltb k n (omega arith))
 
 pub below_has :
-    (n a b c d : ℕ) →
-    ((k : ℕ) → k < 64 → bit a k ≡ ltb k n) → ((k : ℕ) → k < 64 → bit b k ≡ ltb k (n - 64)) →
-    ((k : ℕ) → k < 64 → bit c k ≡ ltb k (n - 128)) → ((k : ℕ) → k < 64 → bit d k ≡ ltb k (n - 192)) →
-    (i : ℕ) → has (of (a ∷ b ∷ c ∷ d ∷ [])) i ≡ ltb i (min n 256)
-below_has n a b c d fa fb fc fd i =
+    (n : ℕ) (ws : List ℕ) → ((q : ℕ) → q < 4 → (k : ℕ) → k < 64 → bit (word ws q) k ≡ ltb k (n - 64 * q)) → (i : ℕ) →
+    has (of ws) i ≡ ltb i (min n 256)
+below_has n ws f i =
     elim (cases_lt i 256) [
-      | inr p ↦ has_past (of (a ∷ b ∷ c ∷ d ∷ [])) i p ∙ sym (le-ltb i (min n 256) (omega arith))
-      | inl l ↦
-          has_in (of (a ∷ b ∷ c ∷ d ∷ [])) i l
-          ∙ four P (λ k l. fa k l ∙ shift_none k) (λ k l. fb k l ∙ shift 1 k) (λ k l. fc k l ∙ shift 2 k) (λ k l. fd k l ∙ shift 3 k) (i / 64) (omega arith) (i % 64) (omega arith)
-          ∙ (let e : 64 * (i / 64) + i % 64 ≡ i = omega arith in ap (λ j. ltb j n) e)
-          ∙ capped l
-    ]
-  where
-    P : ℕ → Type 0
-    P q = (k : ℕ) → k < 64 → bit (word (a ∷ b ∷ c ∷ d ∷ []) q) k ≡ ltb (64 * q + k) n
-
-    capped : i < 256 → ltb i n ≡ ltb i (min n 256)
-    capped l = elim (cases_lt i n) [
-      | inl m ↦ lt-ltb i n m ∙ sym (lt-ltb i (min n 256) (omega arith))
-      | inr m ↦ le-ltb i n m ∙ sym (le-ltb i (min n 256) (omega arith))
-    ]
-
-    shift_none : (k : ℕ) → ltb k n ≡ ltb (64 * 0 + k) n
-    shift_none k = let e : k ≡ 64 * 0 + k = omega arith in ap (λ j. ltb j n) e
-
-    shift : (q k : ℕ) → ltb k (n - 64 * q) ≡ ltb (64 * q + k) n
-    shift q k = elim (cases_lt (64 * q + k) n) [
-      | inl l ↦ lt-ltb _ _ (omega arith) ∙ sym (lt-ltb _ _ l)
-      | inr l ↦ le-ltb _ _ (omega arith) ∙ sym (le-ltb _ _ l)
+      | inr p ↦ has_past (of ws) i p ∙ sym (le-ltb i (min n 256) (omega arith))
+      | inl l ↦ has_in (of ws) i l ∙ f (i / 64) (omega arith) (i % 64) (omega arith) ∙ (elim (cases_lt i n) [
+        | inl m ↦ lt-ltb _ _ (omega arith) ∙ sym (lt-ltb i (min n 256) (omega arith))
+        | inr m ↦ le-ltb _ _ (omega arith) ∙ sym (le-ltb i (min n 256) (omega arith))
+      ])
     ]

@@ -19,10 +19,6 @@ extend (next o f r) e k = next o f (extend r e k)
 pub alone : (g : Graph) (ok : ℕ → Bool) (c x : ℕ) → ok c ≡ true → x ≡ c → Linked g (λ x. ok x ≡ true) c x
 alone g ok c x k e = subst (λ y. Linked g (λ x. ok x ≡ true) c y) (sym e) (here k)
 
-pub linked_start : {g : Graph} {ok : ℕ → Type 0} {a b : ℕ} → Linked g ok a b → ok a
-linked_start (here o) = o
-linked_start (next o e r) = o
-
 linked_seen : {g : Graph} {ok seen : ℕ → Bool} {a b : ℕ} →
     ((x y : ℕ) → seen x ≡ true → Edge g x y → ok y ≡ true → seen y ≡ true) →
     Linked g (λ x. ok x ≡ true) a b → seen a ≡ true → seen b ≡ true

@@ -1,5 +1,5 @@
 -- How many numbers below n pass a test: the counts of the theory, under a name that stays shut at 256.
-use Rattle.std.proofs.Common.{◌≡◌, ℕ, zero, suc, ◌+◌, ◌<◌, ◌≤◌, Bool, true, false, cond, ap, ◌∙◌, arith}
+use Rattle.std.proofs.Common.{◌≡◌, ℕ, zero, suc, ◌+◌, ◌<◌, ◌≤◌, Bool, true, false, cond, refl, ap, ◌∙◌, arith}
 use Rattle.graph.proofs.Counting as counting
 use Rattle.sets.specs.Sets.{size}
 
@@ -28,6 +28,10 @@ size_add test m (suc n) =
 most : (t : Bool) (x y : ℕ) → x ≤ y → cond t (suc x) x ≤ suc y
 most true x y l = omega arith
 most false x y l = omega arith
+
+pub size_none : (test : ℕ → Bool) → size test 0 ≡ 0
+unfolding size
+size_none test = refl
 
 pub size_most : (test : ℕ → Bool) (n : ℕ) → size test n ≤ n
 unfolding size

@@ -3,7 +3,7 @@ use Rattle.std.proofs.Common.{◌≡◌, ℕ, zero, suc, ◌+◌, ◌-◌, ◌/�
 use lib.Bits.{bit_and, bit_or, or_shr, or_mod, and_shr, and_mod}
 use lib.Count.{ones, ones_step, count_trailing_zeros, under}
 use Rattle.std.proofs.lemmas.Nat.{mod_below, pow_pos, shr-shr}
-use Rattle.std.proofs.lemmas.Bool.{eqb-false, eq-eqb, ne_eqb, cases_eq, cases_lt, lt-ltb, le-ltb}
+use Rattle.std.proofs.lemmas.Bool.{eq-eqb, ne_eqb, cases_eq, cases_lt, lt-ltb, le-ltb}
 use Rattle.sets.specs.Sets.{bit, size}
 
 -- a digit
@@ -101,15 +101,6 @@ bit_ones (suc n) (suc k) =
   where
     less : ltb k n ≡ ltb (suc k) (suc n)
     less = elim (cases_lt k n) [ inl l ↦ lt-ltb k n l ∙ sym (lt-ltb (suc k) (suc n) (omega arith)) | inr l ↦ le-ltb k n l ∙ sym (le-ltb (suc k) (suc n) (omega arith)) ]
-
--- a word none of whose bits is set
-pub no_bits : (w n : ℕ) → n < 2 ^ w → ((k : ℕ) → k < w → bit n k ≡ false) → n ≡ 0
-no_bits zero n h f = omega arith
-no_bits (suc w) n h f =
-    let s = pow-suc 2 w in
-    let z : n / 2 ≡ 0 = no_bits w (n / 2) (omega arith) (λ k l. sym (bit_half n k) ∙ f (suc k) (omega arith)) in
-    let o = eqb-false _ _ (sym (bit_zero n) ∙ f 0 (omega arith)) in
-    elim (cases_eq (n % 2) 1) [ inl e ↦ absurd (o e) | inr d ↦ omega arith ]
 
 -- the lowest set bit
 pub record LowestBit (w n t : ℕ) : Type 0 where

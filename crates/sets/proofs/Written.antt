@@ -1,7 +1,7 @@
 -- A row read and a row written.
-use Rattle.std.proofs.Common.{◌≡◌, ℕ, ◌+◌, ◌<◌, ◌≤◌, Bool, true, false, ◌&&◌, ◌||◌, eqb, List, length, get_or, set, sym, refl, ap, ◌∙◌, inl, inr, arith}
+use Rattle.std.proofs.Common.{◌≡◌, ℕ, ◌<◌, ◌≤◌, Bool, true, false, ◌&&◌, ◌||◌, eqb, List, length, get_or, set, sym, refl, ap, ◌∙◌, inl, inr}
 use Rattle.std.proofs.lemmas.List.{get_or-set_same, get_or-set_other, get_or_past}
-use Rattle.std.proofs.lemmas.Bool.{cases_eq, eq-eqb, ne_eqb}
+use Rattle.std.proofs.lemmas.Bool.{cases_eq, cases_lt, eq-eqb, ne_eqb}
 use Rattle.sets.specs.declared.station_set.StationSet.{StationSet}
 use Rattle.sets.specs.Sets.{has, nobody}
 use Rattle.sets.proofs.Members.{nobody_has}
@@ -36,11 +36,10 @@ unfolding adj
 row_past rows a b l = ap (λ s. has s b) (get_or_past rows a nobody l) ∙ nobody_has b
 
 pub cleared :
-    (rows : List StationSet) (i : ℕ) (new : StationSet) → i < length rows → ((b : ℕ) → has new b ≡ false) →
-    ((x b : ℕ) → x < i → adj rows x b ≡ false) → (x b : ℕ) → x < i + 1 → adj (set rows i new) x b ≡ false
+    (rows : List StationSet) (new : StationSet) → ((i : ℕ) (d : StationSet) → i < length rows → get_or rows i d ≡ new) →
+    ((b : ℕ) → has new b ≡ false) → (a b : ℕ) → adj rows a b ≡ false
 unfolding adj
-cleared rows i new l n f x b h =
-    elim (cases_eq x i) [
-      | inl e ↦ ap (λ z. has (get_or (set rows i new) z nobody) b) e ∙ ap (λ s. has s b) (get_or-set_same rows i new nobody l) ∙ n b
-      | inr d ↦ ap (λ s. has s b) (get_or-set_other rows i x new nobody d) ∙ f x b (omega arith)
-    ]
+cleared rows new f n a b = elim (cases_lt a (length rows)) [
+  | inl l ↦ ap (λ s. has s b) (f a nobody l) ∙ n b
+  | inr l ↦ row_past rows a b l
+]

@@ -1,5 +1,6 @@
 -- A set of stations below 256, by the bits of four words.
-use Rattle.std.specs.Prelude.{◌≡◌, ℕ, ◌*◌, ◌/◌, ◌%◌, ◌^◌, ◌<◌, Bool, true, false, ◌&&◌, [], ◌==◌, bit_or, nat_lt, slice_index, slice_set}
+use Rattle.std.specs.Prelude.{◌≡◌, ℕ, ◌*◌, ◌/◌, ◌%◌, ◌^◌, ◌<◌, Bool, true, false, ◌&&◌, List, [], ◌==◌, bit_or, nat_lt, slice_index, slice_set}
+use Rattle.std.specs.List.{filter, range_with_len}
 use Rattle.graph.specs.Pairs.{size as counted}
 use Rattle.sets.specs.declared.station_set.StationSet.{StationSet}
 
@@ -18,6 +19,14 @@ nobody = record { words = [] }
 -- how many numbers below n pass
 unfoldable pub size : (ℕ → Bool) → ℕ → ℕ
 size test n = counted test n
+
+-- the numbers below n that pass, rising
+unfoldable pub passing : (ℕ → Bool) → ℕ → List ℕ
+passing test n = filter test (range_with_len 0 n)
+
+-- the members, rising
+abbrev pub members : StationSet → List ℕ
+members s = passing (has s) 256
 
 -- no station is a member
 abbrev pub Nobody : StationSet → Type 0

@@ -1,6 +1,7 @@
 // Sets of stations, and rows of them as the adjacency of a network.
 #![tactic(auto)]
 
+pub mod iter;
 pub mod rows;
 pub mod station_set;
 

@@ -26,19 +26,16 @@ pub fn widen(rows: &mut Rows, u: u8, more: StationSet)
 pub fn clear(rows: &mut Rows)
     ensures { (a b : ℕ) → adj rows.new a b ≡ false }
 {
-    for a in 0..256 {
-        rows[a] = StationSet::empty();
-    }
+    rows.fill(StationSet::EMPTY);
 }
 
 // The stations that have a neighbour in the set.
+#[tactic(auto, using(crate::proofs::Rising::nobody_from))]
 pub fn touching(rows: &Rows, part: StationSet) -> StationSet
     ensures { (a : ℕ) → In result a ↔ Touched (adj rows.now) (has part) a }
 {
     let mut all = StationSet::empty();
-    let mut left = part;
-    while let Some(d) = left.first() {
-        left.remove(d);
+    for d in part {
         all = all.union(row(rows, d));
     }
     all
@@ -54,6 +51,7 @@ pub fn part_of(rows: &Rows, within: StationSet, c: u8) -> StationSet
     }
     seen.insert(c);
     let mut todo = seen;
+    // No `for`: the list grows while it is worked off, so an iterator over it would be no plainer.
     while let Some(v) = todo.first() {
         todo.remove(v);
         let fresh = row(rows, v).intersection(within).difference(seen);
@@ -64,12 +62,11 @@ pub fn part_of(rows: &Rows, within: StationSet, c: u8) -> StationSet
 }
 
 // Notes each pair of different members of the border that are not adjacent.
+#[tactic(auto, using(crate::proofs::Rising::nobody_from))]
 pub fn note_gaps(rows: &Rows, border: StationSet, noted: &mut Rows)
     ensures { (a b : ℕ) → adj noted.new a b ≡ (adj noted.old a b || gaps (adj rows.now) (has border) a b) }
 {
-    let mut left = border;
-    while let Some(a) = left.first() {
-        left.remove(a);
+    for a in border {
         let mut others = border.difference(row(rows, a));
         others.remove(a);
         widen(noted, a, others);

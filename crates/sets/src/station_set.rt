@@ -1,8 +1,12 @@
 // A set of stations 0 to 255, by the bits of four words.
-ghost use Rattle.std.specs.Prelude.{◌≡◌, ℕ, ◌<◌, min, true, false, not, ◌&&◌, ◌||◌, ◌↔◌, MatchOption, ◌==◌, nat_lt};
+ghost use Rattle.std.specs.Prelude.{◌≡◌, ℕ, ◌<◌, ◌^◌, min, true, false, not, ◌&&◌, ◌||◌, ◌↔◌, MatchOption, ◌==◌, nat_lt, slice_index};
+ghost use Rattle.std.specs.Ordering.{nat_cmp};
 ghost use Rattle.sets.specs.Sets.{has, size, bit, added, Nobody, Lowest, Less};
 
-#[derive(Clone, Copy)]
+use std::array;
+use std::cmp::Ordering;
+
+#[derive(Clone, Copy, Debug, PartialEq, Eq)]
 pub struct StationSet {
     words: [u64; 4],
 }
@@ -22,12 +26,7 @@ impl StationSet {
         ensures { (i : ℕ) → has result i ≡ nat_lt i (min n 256) }
     {
         StationSet {
-            words: [
-                filled(n),
-                filled(n.saturating_sub(64)),
-                filled(n.saturating_sub(128)),
-                filled(n.saturating_sub(192)),
-            ],
+            words: array::from_fn(|k| filled(n.saturating_sub(64 * k))),
         }
     }
 
@@ -57,84 +56,68 @@ impl StationSet {
     pub fn union(self, other: StationSet) -> StationSet
         ensures { (i : ℕ) → has result i ≡ (has self i || has other i) }
     {
-        let mut words = self.words;
-        for k in 0..4 {
-            words[k] |= other.words[k];
-        }
-        StationSet { words }
+        self.word_by_word(other, |a, b| a | b)
     }
 
     // The members of both.
     pub fn intersection(self, other: StationSet) -> StationSet
         ensures { (i : ℕ) → has result i ≡ (has self i && has other i) }
     {
-        let mut words = self.words;
-        for k in 0..4 {
-            words[k] &= other.words[k];
-        }
-        StationSet { words }
+        self.word_by_word(other, |a, b| a & b)
     }
 
     // The members that the other lacks.
     pub fn difference(self, other: StationSet) -> StationSet
         ensures { (i : ℕ) → has result i ≡ (has self i && not (has other i)) }
     {
-        let a = self.words;
-        let b = other.words;
-        StationSet {
-            words: [a[0] & !b[0], a[1] & !b[1], a[2] & !b[2], a[3] & !b[3]],
-        }
+        self.word_by_word(other, without)
     }
 
     // Whether there are no members.
     pub fn is_empty(self) -> bool
         ensures { (result ≡ true) ↔ Nobody self }
     {
-        for k in 0..4 {
-            if self.words[k] != 0 {
-                return false;
-            }
-        }
-        true
+        self.first().is_none()
     }
 
     // The lowest member.
     pub fn first(self) -> Option<u8>
         ensures { MatchOption result (Nobody self) (λ v. Lowest self v) }
     {
-        for k in 0..4 {
-            let word = self.words[k];
-            if word != 0 {
-                let lowest = 64 * k + word.trailing_zeros() as usize;
-                return Some(lowest as u8);
-            }
-        }
-        None
+        let k = self.words.iter().position(|word| *word != 0)?;
+        let lowest = 64 * k + self.words[k].trailing_zeros() as usize;
+        Some(lowest as u8)
     }
 
     // How many members there are.
     pub fn len(self) -> usize
         ensures { result ≡ size (has self) 256 }
     {
-        let mut total = 0;
-        for k in 0..4 {
-            total += self.words[k].count_ones() as usize;
-        }
-        total
+        self.words.iter().map(|word| ones(*word)).sum()
     }
 
     // Whether the other holds the highest station in which the two differ.
     pub fn less(self, other: StationSet) -> bool
         ensures { (result ≡ true) ↔ Less self other }
     {
-        for k in (0..4).rev() {
-            let a = self.words[k];
-            let b = other.words[k];
-            if a != b {
-                return a < b;
-            }
+        // No chain: over `iter().rev()` the proof knows no word to be below 2 ^ 64, which `Less` rests on.
+        let a = self.words;
+        let b = other.words;
+        compare(a[3], b[3])
+            .then(compare(a[2], b[2]))
+            .then(compare(a[1], b[1]))
+            .then(compare(a[0], b[0]))
+            .is_lt()
+    }
+
+    // The set of the words that `join` makes of those of two sets.
+    fn word_by_word<F: Fn(u64, u64) -> u64>(self, other: StationSet, join: F) -> StationSet
+        requires { F.IsAlwaysCallable join }
+        ensures { (q : ℕ) → q < 4 → F.post join (slice_index self.words q) (slice_index other.words q) (slice_index result.words q) }
+    {
+        StationSet {
+            words: array::from_fn(|k| join(self.words[k], other.words[k])),
         }
-        false
     }
 }
 
@@ -143,4 +126,26 @@ fn filled(n: usize) -> u64
     ensures { (k : ℕ) → k < 64 → bit result k ≡ nat_lt k n }
 {
     if n < 64 { (1 << n) - 1 } else { u64::MAX }
+}
+
+// The bits of a that b lacks.
+fn without(a: u64, b: u64) -> u64
+    ensures { (k : ℕ) → k < 64 → bit result k ≡ (bit a k && not (bit b k)) }
+{
+    a & !b
+}
+
+// How many bits of a word are 1.
+fn ones(word: u64) -> usize
+    ensures { result ≡ size (bit word) 64 }
+{
+    word.count_ones() as usize
+}
+
+// How two words compare.
+fn compare(a: u64, b: u64) -> Ordering
+    ensures order { result ≡ nat_cmp a b }
+    ensures fits { (a < 2 ^ 64) × (b < 2 ^ 64) }
+{
+    a.cmp(&b)
 }

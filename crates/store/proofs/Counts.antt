@@ -1,18 +1,25 @@
 -- Counting pairs by their mark.
-use Rattle.std.proofs.Common.{◌≡◌, ℕ, zero, suc, ◌+◌, ◌<◌, ◌≤◌, cond, eqb, sym, refl, ap, ◌∙◌, ap₂, ⊎_elim, add-one, arith}
-use Rattle.std.proofs.lemmas.Bool.{eq-eqb, ne_eqb, cases_eq}
+use Rattle.std.proofs.Common.{◌≡◌, ℕ, zero, suc, ◌+◌, ◌<◌, ◌≤◌, cond, eqb, sum_by, count_by, sym, refl, ap, ◌∙◌, ap₂, ⊎_elim, add-one, arith}
+use Rattle.std.proofs.lemmas.Bool.{cases_eq}
+use Rattle.std.proofs.lemmas.Bool.Decides.{nat_tests}
+use Rattle.std.proofs.lemmas.List.{map-id}
+use Rattle.std.proofs.lemmas.List.FromFn.{sum_by-map-range_with_len_more}
+use Rattle.std.specs.List.{range_with_len}
 use Rattle.store.specs.Nets.{count_in_row, count_pairs}
 
--- one station more, with the mark or without it
-pub row_hit : (mark : ℕ → ℕ → ℕ) (m b k : ℕ) → mark k b ≡ m → count_in_row mark m b (k + 1) ≡ count_in_row mark m b k + 1
-row_hit mark m b k e = ap (count_in_row mark m b) (add-one k) ∙ ap (λ t. count_in_row mark m b k + cond t 1 0) (eq-eqb (mark k b) m e)
+-- a sum over one number more
+sum_more : (f : ℕ → ℕ) (n : ℕ) → sum_by f (range_with_len 0 (suc n)) ≡ sum_by f (range_with_len 0 n) + f n
+sum_more f n =
+    sym (ap (λ k. sum_by f (range_with_len 0 k)) (add-one n)) ∙ simp map-id at (sum_by-map-range_with_len_more f (λ x. x) 0 n n (omega arith))
 
-pub row_miss : (mark : ℕ → ℕ → ℕ) (m b k : ℕ) → (mark k b ≡ m → ⊥) → count_in_row mark m b (k + 1) ≡ count_in_row mark m b k
-row_miss mark m b k d =
-    ap (count_in_row mark m b) (add-one k) ∙ ap (λ t. count_in_row mark m b k + cond t 1 0) (ne_eqb (mark k b) m d) ∙ (let z : count_in_row mark m b k + 0 ≡ count_in_row mark m b k = omega arith in z)
+-- the pairs of a row, and of all rows, as chains over ranges count them
+pub row_from : (mark : ℕ → ℕ → ℕ) (m b k : ℕ) → count_by (λ a. eqb (mark a b) m) (range_with_len 0 k) ≡ count_in_row mark m b k
+row_from mark m b zero = refl
+row_from mark m b (suc k) = sum_more (λ a. cond (eqb (mark a b) m) 1 0) k ∙ ap (λ s. s + cond (eqb (mark k b) m) 1 0) (row_from mark m b k)
 
-pub pairs_more : (mark : ℕ → ℕ → ℕ) (m b : ℕ) → count_pairs mark m (b + 1) ≡ count_pairs mark m b + count_in_row mark m b b
-pairs_more mark m b = ap (count_pairs mark m) (add-one b)
+pub pairs_from : (mark : ℕ → ℕ → ℕ) (m n : ℕ) → sum_by (λ b. count_in_row mark m b b) (range_with_len 0 n) ≡ count_pairs mark m n
+pairs_from mark m zero = refl
+pairs_from mark m (suc n) = sum_more (λ b. count_in_row mark m b b) n ∙ ap (λ s. s + count_in_row mark m n n) (pairs_from mark m n)
 
 -- the one pair lo hi had the mark m, and has it no more
 module _ (old new : ℕ → ℕ → ℕ) (m lo hi : ℕ) (order : lo < hi) (had : old lo hi ≡ m) (lost : new lo hi ≡ m → ⊥)
@@ -31,11 +38,10 @@ module _ (old new : ℕ → ℕ → ℕ) (m lo hi : ℕ) (order : lo < hi) (had 
   row_after (suc k) h l =
       ⊎_elim
       (λ (e : k ≡ lo).
-      let here : count_in_row old m hi (k + 1) ≡ count_in_row old m hi k + 1 = row_hit old m hi k (ap (λ a. old a hi) e ∙ had) in
-      let gone : count_in_row new m hi (k + 1) ≡ count_in_row new m hi k = row_miss new m hi k (λ q. lost (sym (ap (λ a. new a hi) e) ∙ q)) in
-      let same : count_in_row new m hi k ≡ count_in_row old m hi k = row_before k (omega arith) in
-      let one = add-one k in
-      sym (ap (λ j. count_in_row new m hi j + 1) one) ∙ (let z : count_in_row new m hi (k + 1) + 1 ≡ count_in_row old m hi (k + 1) = omega arith in z) ∙ ap (count_in_row old m hi) one)
+      let was : old k hi ≡ m = ap (λ a. old a hi) e ∙ had in
+      let is_not : new k hi ≡ m → ⊥ = λ q. lost (sym (ap (λ a. new a hi) e) ∙ q) in
+      let same = row_before k (omega arith) in
+      grind (arith, nat_tests))
       (λ (d : k ≡ lo → ⊥).
       let q : count_in_row new m hi k + 1 ≡ count_in_row old m hi k = row_after k (omega arith) (omega arith) in
       let p : ◌≡◌ {A = ℕ} (cond (eqb (new k hi) m) 1 0) (cond (eqb (old k hi) m) 1 0) = ap (λ x. cond (eqb x m) 1 0) (rest k hi (omega arith) (λ p. d p.0)) in

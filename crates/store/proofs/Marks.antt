@@ -1,11 +1,14 @@
 -- What a change of bits does to the net of a matrix.
-use Rattle.std.proofs.Common.{◌≡◌, ℕ, ◌+◌, ◌-◌, ◌<◌, ◌≤◌, min, max, true, false, ◌&&◌, eqb, ltb, ◌⊎◌, List, length, sym, refl, ap, ◌∙◌, ap₂, inl, inr, ⊎_elim, arith}
-use Rattle.std.proofs.lemmas.Bool.{cases_eq, cases_lt, cases_Bool, or_cases, or_left, or_right, and_parts, and_from, eqb-true, eq-eqb, cond-true, cond-false, both_ways, lt-ltb, le-ltb, ne_eqb}
+use Rattle.std.proofs.Common.{◌≡◌, ℕ, ◌+◌, ◌-◌, ◌<◌, ◌≤◌, min, max, Bool, true, false, cond, ◌&&◌, eqb, ◌⊎◌, List, length, sym, refl, ap, ◌∙◌, ap₂, inl, inr, ⊎_elim, arith}
+use Rattle.std.proofs.lemmas.Bool.{cases_eq, cases_lt, cases_Bool, or_cases, and_parts, eqb-true, cond-true, cond-false}
 use Rattle.store.specs.Nets.{couple, remarked, count_pairs, with_fill}
-use Rattle.store.specs.Refusals.{lay_refusal}
+use Rattle.std.proofs.lemmas.Bool.Decides.{nat_tests}
+use Rattle.store.specs.declared.refusal.Refusal.{Refusal}
+use Rattle.store.specs.Refusals.{number, pair_refusal, lay_refusal}
 use Rattle.store.specs.Squares.{bit, raised, lowered, wiped}
-use Rattle.store.specs.Matrices.{pair_mark, matrix_mark, size_over, counted, matrix_net, empty_net}
+use Rattle.store.specs.Matrices.{pair_mark, matrix_mark, size_over, counted, matrix_net, empty_net, size_refusal}
 use Rattle.store.specs.MatrixLaws.{size_short, size_long, size_most, mark_same, mark_in, mark_outside, mark_alike}
+use Rattle.store.proofs.Checks.{size_fits, two_stations, number_some}
 use Rattle.store.proofs.Counts.{one_fewer}
 use Rattle.store.proofs.Squares.{raised_puts, lowered_puts, wiped_bit, wiped_length}
 
@@ -16,6 +19,12 @@ counted_same s t f g e h = λ i. counted (e i) (λ a b. h a b i)
 -- n stations in a whole square
 pub size_is : (len n : ℕ) → 8192 ≤ len → 1 ≤ n → n ≤ 256 → size_over len n ≡ n
 size_is len n long some most = size_long len n long ∙ (let e : min 256 (max 1 n) ≡ n = omega arith in e)
+
+-- n stations over the same bytes
+pub resized_net : (bytes : List ℕ) (n : ℕ) → size_refusal n (length bytes) ≡ 0 → matrix_net bytes n ≡ counted n (matrix_mark bytes n)
+resized_net bytes n ok =
+    let fits = size_fits n (length bytes) ok in
+    ap (λ s. counted s (matrix_mark bytes s)) (size_is (length bytes) n fits.long fits.some fits.most)
 
 -- no bit, no mark
 pub wiped_mark : (old : List ℕ) (n u v : ℕ) → n ≤ 256 → matrix_mark (wiped old) n u v ≡ 0
@@ -29,10 +38,11 @@ wiped_mark old n u v most =
     (cases_lt (max u v) n))
     (cases_eq u v)
 
-pub wiped_net : (old : List ℕ) (n : ℕ) → 8192 ≤ length old → 1 ≤ n → n ≤ 256 → matrix_net (wiped old) n ≡ empty_net n
-wiped_net old n long some most =
-    let e : size_over (length (wiped old)) n ≡ n = size_is (length (wiped old)) n (omega (arith, wiped_length old long)) some most in
-    counted_same _ n _ (λ u v. 0) e (λ a b. wiped_mark old _ a b (omega (arith, e)))
+pub wiped_net : (old : List ℕ) (n : ℕ) → size_refusal n (length old) ≡ 0 → matrix_net (wiped old) n ≡ empty_net n
+wiped_net old n ok =
+    let fits = size_fits n (length old) ok in
+    let size : size_over (length (wiped old)) n ≡ n = size_is (length (wiped old)) n (omega (arith, wiped_length old fits.long)) fits.some fits.most in
+    counted_same _ n _ (λ u v. 0) size (λ a b. wiped_mark old _ a b (omega (arith, size)))
 
 -- either way round, the couple is the same two stations
 couple_is : (u v a b : ℕ) → couple u v a b ≡ true → ((a ≡ u) × (b ≡ v)) ⊎ ((a ≡ v) × (b ≡ u))
@@ -43,10 +53,7 @@ couple_is u v a b e =
     ]
 
 couple_not : (u v a b : ℕ) → couple u v a b ≡ false → ((a ≡ u) × (b ≡ v) → ⊥) × ((a ≡ v) × (b ≡ u) → ⊥)
-couple_not u v a b e = (
-  (λ p. both_ways (couple u v a b) e (or_left (eqb a u && eqb b v) (eqb b u && eqb a v) (and_from (eqb a u) (eqb b v) (eq-eqb a u p.0) (eq-eqb b v p.1)))),
-  (λ p. both_ways (couple u v a b) e (or_right (eqb a u && eqb b v) (eqb b u && eqb a v) (and_from (eqb b u) (eqb a v) (eq-eqb b u p.1) (eq-eqb a v p.0)))),
-)
+couple_not u v a b e = ((λ p. grind (arith, nat_tests)), (λ p. grind (arith, nat_tests)))
 
 -- the two bits of the pair u v are written, and no other
 module _ (old new : List ℕ) (n u v stands tied : ℕ) (hu : u < n) (hv : v < n) (few : n ≤ 256) (d : u ≡ v → ⊥)
@@ -54,9 +61,9 @@ module _ (old new : List ℕ) (n u v stands tied : ℕ) (hu : u < n) (hv : v < n
     (rest : (x y : ℕ) → y < 256 → ((x ≡ u) × (y ≡ v) → ⊥) → ((x ≡ v) × (y ≡ u) → ⊥) → bit new x y ≡ bit old x y) where
   mark_here : (a b : ℕ) → ((a ≡ u) × (b ≡ v)) ⊎ ((a ≡ v) × (b ≡ u)) → matrix_mark new n a b ≡ pair_mark stands tied
   mark_here a b w =
-      let lo : min a b ≡ min u v = ⊎_elim (λ p. omega (arith, p.0, p.1)) (λ p. omega (arith, p.0, p.1)) w in
-      let hi : max a b ≡ max u v = ⊎_elim (λ p. omega (arith, p.0, p.1)) (λ p. omega (arith, p.0, p.1)) w in
-      let differ : a ≡ b → ⊥ = λ e. ⊎_elim (λ p. d (omega (arith, p.0, p.1))) (λ p. d (omega (arith, p.0, p.1))) w in
+      let lo : min a b ≡ min u v = grind arith in
+      let hi : max a b ≡ max u v = grind arith in
+      let differ : a ≡ b → ⊥ = λ e. grind arith in
       mark_in new n a b differ (omega arith)
       ∙ ap₂ (λ x y. pair_mark (bit new x y) (bit new y x)) lo hi
       ∙ ap₂ pair_mark above below
@@ -66,24 +73,12 @@ module _ (old new : List ℕ) (n u v stands tied : ℕ) (hu : u < n) (hv : v < n
       ⊎_elim (λ e. mark_same new n a b e ∙ sym (mark_same old n a b e))
       (λ (ne : a ≡ b → ⊥). ⊎_elim
       (λ (h : max a b < n).
-      let one = rest (min a b) (max a b) (omega arith) (other (min a b) (max a b) (least a b)) (other' (min a b) (max a b) (least a b)) in
-      let two = rest (max a b) (min a b) (omega arith) (other (max a b) (min a b) (most a b)) (other' (max a b) (min a b) (most a b)) in
+      let one = rest (min a b) (max a b) (omega arith) (λ r. grind arith) (λ r. grind arith) in
+      let two = rest (max a b) (min a b) (omega arith) (λ r. grind arith) (λ r. grind arith) in
       mark_in new n a b ne h ∙ ap₂ pair_mark one two ∙ sym (mark_in old n a b ne h))
       (λ (h : n ≤ max a b). mark_outside new n a b h ∙ sym (mark_outside old n a b h))
       (cases_lt (max a b) n))
       (cases_eq a b)
-    where
-      least : (a b : ℕ) → ((min a b ≡ a) × (max a b ≡ b)) ⊎ ((min a b ≡ b) × (max a b ≡ a))
-      least a b = ⊎_elim (λ (h : a < b). inl (omega arith, omega arith)) (λ (h : b ≤ a). inr (omega arith, omega arith)) (cases_lt a b)
-
-      most : (a b : ℕ) → ((max a b ≡ a) × (min a b ≡ b)) ⊎ ((max a b ≡ b) × (min a b ≡ a))
-      most a b = ⊎_elim (λ (h : a < b). inr (omega arith, omega arith)) (λ (h : b ≤ a). inl (omega arith, omega arith)) (cases_lt a b)
-
-      other : (x y : ℕ) → ((x ≡ a) × (y ≡ b)) ⊎ ((x ≡ b) × (y ≡ a)) → (x ≡ u) × (y ≡ v) → ⊥
-      other x y w r = ⊎_elim (λ s. p (sym s.0 ∙ r.0, sym s.1 ∙ r.1)) (λ s. q (sym s.1 ∙ r.1, sym s.0 ∙ r.0)) w
-
-      other' : (x y : ℕ) → ((x ≡ a) × (y ≡ b)) ⊎ ((x ≡ b) × (y ≡ a)) → (x ≡ v) × (y ≡ u) → ⊥
-      other' x y w r = ⊎_elim (λ s. q (sym s.0 ∙ r.0, sym s.1 ∙ r.1)) (λ s. p (sym s.1 ∙ r.1, sym s.0 ∙ r.0)) w
 
   pub marks_changed : (a b : ℕ) → matrix_mark new n a b ≡ remarked (matrix_mark old n) u v (pair_mark stands tied) a b
   marks_changed a b =
@@ -92,18 +87,26 @@ module _ (old new : List ℕ) (n u v stands tied : ℕ) (hu : u < n) (hv : v < n
         | inr e ↦ mark_rest a b (couple_not u v a b e).0 (couple_not u v a b e).1 ∙ sym (cond-false (couple u v a b) (pair_mark stands tied) (matrix_mark old n a b) e)
       ]
 
--- the mark, from the two bits of the lower and the upper station
-pub mark_read : (bytes : List ℕ) (n u v lo hi m : ℕ) → lo ≡ min u v → hi ≡ max u v → (u ≡ v → ⊥) → hi < n → m ≡ pair_mark (bit bytes lo hi) (bit bytes hi lo) → m ≡ matrix_mark bytes n u v
-mark_read bytes n u v lo hi m p q d h e =
-    e ∙ ap₂ (λ x y. pair_mark (bit bytes x y) (bit bytes y x)) p q ∙ sym (mark_in bytes n u v d (omega arith))
+-- the mark, from what the two bits of the lower and the upper station say
+pub mark_read : (bytes : List ℕ) (n u v lo hi m : ℕ) (stands tied : Bool) → pair_refusal n u v ≡ 0 → lo ≡ min u v → hi ≡ max u v → stands ≡ eqb (bit bytes lo hi) 1 → tied ≡ eqb (bit bytes hi lo) 1 → m ≡ cond stands (cond tied 1 2) 0 → m ≡ matrix_mark bytes n u v
+mark_read bytes n u v lo hi m stands tied ok p q s t e =
+    let two = two_stations n u v ok in
+    let differ = two.differ in
+    e ∙ ap₂ (λ x y. cond x (cond y 1 2) 0) s t ∙ ap₂ (λ x y. pair_mark (bit bytes x y) (bit bytes y x)) p q ∙ sym (mark_in bytes n u v differ (omega arith))
+
+-- stations that are no pair have no mark
+pub refused_mark : (bytes : List ℕ) (n u v : ℕ) (refusal : Refusal) → number refusal ≡ pair_refusal n u v → 0 ≡ matrix_mark bytes n u v
+refused_mark bytes n u v refusal e =
+    ⊎_elim (λ same. sym (mark_same bytes n u v same))
+    (λ (differ : u ≡ v → ⊥).
+    ⊎_elim (λ (h : max u v < n). absurd (number_some refusal (e ∙ grind (arith, nat_tests))))
+    (λ (h : n ≤ max u v). sym (mark_outside bytes n u v h))
+    (cases_lt (max u v) n))
+    (cases_eq u v)
 
 -- the same bit both ways round
 both_bits : (new : List ℕ) (u v s : ℕ) → bit new u v ≡ s → bit new v u ≡ s → (bit new (min u v) (max u v) ≡ s) × (bit new (max u v) (min u v) ≡ s)
-both_bits new u v s p q =
-    ⊎_elim
-    (λ (h : u < v). let lo : min u v ≡ u = omega arith in let hi : max u v ≡ v = omega arith in (ap₂ (bit new) lo hi ∙ p, ap₂ (bit new) hi lo ∙ q))
-    (λ (h : v ≤ u). let lo : min u v ≡ v = omega arith in let hi : max u v ≡ u = omega arith in (ap₂ (bit new) lo hi ∙ q, ap₂ (bit new) hi lo ∙ p))
-    (cases_lt u v)
+both_bits new u v s p q = (grind arith, grind arith)
 
 -- a pair that did not stand joins the fill: one fewer does not stand
 pub filled_count : (mark : ℕ → ℕ → ℕ) (n u v : ℕ) → ((a b : ℕ) → mark a b ≡ mark b a) → (u ≡ v → ⊥) → u < n → v < n → mark u v ≡ 0 → count_pairs (remarked mark u v 2) 0 n + 1 ≡ count_pairs mark 0 n
@@ -111,25 +114,14 @@ filled_count mark n u v alike d hu hv free =
     let new = remarked mark u v 2 in
     let lo = min u v in
     let hi = max u v in
-    let here : couple u v lo hi ≡ true = is_couple u v lo hi (⊎_elim (λ (h : u < v). inl (omega arith, omega arith)) (λ (h : v ≤ u). inr (omega arith, omega arith)) (cases_lt u v)) in
-    let had : mark lo hi ≡ 0 =
-    ⊎_elim
-    (λ (h : u < v). let l : lo ≡ u = omega arith in let k : hi ≡ v = omega arith in ap₂ mark l k ∙ free)
-    (λ (h : v ≤ u). let l : lo ≡ v = omega arith in let k : hi ≡ u = omega arith in ap₂ mark l k ∙ alike v u ∙ free)
-    (cases_lt u v) in
-    let lost : new lo hi ≡ 0 → ⊥ = λ e. omega (arith, sym (cond-true (couple u v lo hi) 2 (mark lo hi) here) ∙ e) in
+    let here : couple u v lo hi ≡ true = grind (arith, nat_tests) in
+    let turned = alike u v in
+    let had : mark lo hi ≡ 0 = grind arith in
+    let lost : new lo hi ≡ 0 → ⊥ = λ e. grind (arith, nat_tests) in
     one_fewer mark new 0 lo hi (omega arith) had lost (λ a b h p. cond-false (couple u v a b) 2 (mark a b) (not_couple u v a b h p)) n (omega arith)
   where
-    is_couple : (u v a b : ℕ) → ((a ≡ u) × (b ≡ v)) ⊎ ((a ≡ v) × (b ≡ u)) → couple u v a b ≡ true
-    is_couple u v a b (inl p) = or_left (eqb a u && eqb b v) (eqb b u && eqb a v) (and_from (eqb a u) (eqb b v) (eq-eqb a u p.0) (eq-eqb b v p.1))
-    is_couple u v a b (inr p) = or_right (eqb a u && eqb b v) (eqb b u && eqb a v) (and_from (eqb b u) (eqb a v) (eq-eqb b u p.1) (eq-eqb a v p.0))
-
     not_couple : (u v a b : ℕ) → a < b → ((a ≡ min u v) × (b ≡ max u v) → ⊥) → couple u v a b ≡ false
-    not_couple u v a b h p =
-        elim (cases_Bool (couple u v a b)) [
-          | inl e ↦ absurd (⊎_elim (λ q. p (omega (arith, q.0, q.1), omega (arith, q.0, q.1))) (λ q. p (omega (arith, q.0, q.1), omega (arith, q.0, q.1))) (couple_is u v a b e))
-          | inr e ↦ e
-        ]
+    not_couple u v a b h p = grind (arith, nat_tests)
 
 -- the bits u v and v u both set
 pub tied_net : (old : List ℕ) (n u v : ℕ) → 8192 ≤ length old → u < size_over (length old) n → v < size_over (length old) n → (u ≡ v → ⊥) → matrix_net (raised (raised old u v) v u) n ≡ counted (size_over (length old) n) (remarked (matrix_mark old (size_over (length old) n)) u v 1)
@@ -158,8 +150,8 @@ laid_net old n u v long hu hv d free =
     let second = lowered_puts mid hi lo (omega (arith, first.long)) (omega arith) (omega arith) in
     let same : size_over (length new) n ≡ size = ap (λ l. size_over l n) (second.long ∙ first.long) in
     let rest : (x y : ℕ) → y < 256 → ((x ≡ u) × (y ≡ v) → ⊥) → ((x ≡ v) × (y ≡ u) → ⊥) → bit new x y ≡ bit old x y =
-    λ x y h p q. second.rest x y h (λ r. ⊎_elim (λ (l : u < v). q (omega (arith, r.0), omega (arith, r.1))) (λ (l : v ≤ u). p (omega (arith, r.0), omega (arith, r.1))) (cases_lt u v))
-    ∙ first.rest x y h (λ r. ⊎_elim (λ (l : u < v). p (omega (arith, r.0), omega (arith, r.1))) (λ (l : v ≤ u). q (omega (arith, r.0), omega (arith, r.1))) (cases_lt u v)) in
+    λ x y h p q. second.rest x y h (λ r. grind arith)
+    ∙ first.rest x y h (λ r. grind arith) in
     let marks : (a b : ℕ) → matrix_mark new size a b ≡ remarked (matrix_mark old size) u v 2 a b =
     marks_changed old new size u v 1 0 hu hv few d (second.rest lo hi (omega arith) (λ p. omega (arith, p.0)) ∙ first.here) second.here rest in
     let fewer : count_pairs (remarked (matrix_mark old size) u v 2) 0 size ≡ count_pairs (matrix_mark old size) 0 size - 1 = omega (arith, filled_count (matrix_mark old size) size u v (mark_alike old size) d hu hv free) in
@@ -172,8 +164,7 @@ free_allowed old n u v hu hv d free =
     let size = size_over (length old) n in
     let mark = matrix_mark old size in
     let some : 0 < count_pairs mark 0 size = omega (arith, filled_count mark size u v (mark_alike old size) d hu hv free) in
-    cond-true (ltb u size) _ 1 (lt-ltb u size hu) ∙ cond-true (ltb v size) _ 1 (lt-ltb v size hv) ∙ cond-false (eqb u v) 2 _ (ne_eqb u v d)
-    ∙ cond-false (ltb 0 (mark u v)) 3 _ (le-ltb 0 (mark u v) (omega arith)) ∙ cond-true (ltb 0 (count_pairs mark 0 size)) 0 4 (lt-ltb 0 (count_pairs mark 0 size) some)
+    grind (arith, nat_tests)
 
 -- one station has no pair, whatever the bytes
 pub lone_net : (bytes : List ℕ) → matrix_net bytes 1 ≡ empty_net 1

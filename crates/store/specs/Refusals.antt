@@ -1,5 +1,5 @@
 -- The numbers of refusals, and what a store's `lay` does.
-use Rattle.std.specs.Prelude.{◌≡◌, ℕ, cond, Ok, Err, Result, ◌==◌, nat_lt}
+use Rattle.std.specs.Prelude.{◌≡◌, ℕ, cond, Ok, Err, List, ◌++◌, Result, ◌==◌, nat_lt, codes, decimal}
 use Rattle.store.specs.declared.refusal.Refusal.{Refusal}
 use Rattle.store.specs.declared.refusal.Refusal.TheVariants.{StationOutside, SameStation, PairStands, NoRoom, SheetLength, SizeOutside, PairMalformed, PairNotAbove, AreaTooShort, StoreHoldsFill, StripTooShort, TakeOutside, AlreadyTaken, ShortfallExceedsRoom, StationsLeft, NumberPastLast}
 use Rattle.store.specs.Nets.{Net, with_fill}
@@ -23,8 +23,12 @@ number ShortfallExceedsRoom = 14
 number StationsLeft = 15
 number NumberPastLast = 16
 
+-- the text that a refusal prints as: the word, a space, and the number in decimal
+abbrev pub refused_text : Refusal → List ℕ
+refused_text r = codes "refused " ++ decimal (number r)
+
 -- the answer to a check: Ok at 0, and at any other number the refusal of that number
-abbrev pub Checks : ℕ → Result (Unit {0}) Refusal → Type 0
+abbrev pub Checks : {A : Type 0} → ℕ → Result A Refusal → Type 0
 Checks k (Ok _) = k ≡ 0
 Checks k (Err e) = number e ≡ k
 

@@ -1,17 +1,14 @@
 -- A square of 256 by 256 bits in the first 8,192 bytes of an area: bit v % 8 of the byte u * 32 + v / 8.
 use Rattle.std.specs.Prelude.{ℕ, ◌+◌, ◌-◌, ◌*◌, ◌/◌, ◌%◌, ◌^◌, List, ◌++◌, drop, replicate, bit_and, bit_or, slice_index, slice_set}
+use Rattle.std.specs.Int.{bit_at}
 
 -- the byte that has the bit u v
 abbrev pub place : ℕ → ℕ → ℕ
 place u v = u * 32 + v / 8
 
--- bit k of a byte, the lowest being bit 0
-abbrev pub bit_of : ℕ → ℕ → ℕ
-bit_of byte k = byte / 2 ^ k % 2
-
 -- the bit of row u and column v
 unfoldable pub bit : List ℕ → ℕ → ℕ → ℕ
-bit bytes u v = bit_of (slice_index bytes (place u v)) (v % 8)
+bit bytes u v = bit_at (slice_index bytes (place u v)) (v % 8)
 
 -- the byte with the one bit v % 8
 abbrev pub mask : ℕ → ℕ

@@ -2,6 +2,7 @@
 #![tactic(auto)]
 
 pub mod matrix;
+mod pair;
 pub mod refusal;
 mod square;
 pub mod store;

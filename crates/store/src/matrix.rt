@@ -1,12 +1,13 @@
 // The matrix: a network in the first 8,192 bytes of a lent area.
-ghost use Rattle.std.specs.Prelude.{◌≡◌, ◌<◌, length};
+ghost use Rattle.std.specs.Prelude.{◌≡◌, ◌<◌, ◌≤◌, min, max, length, IfOk};
 ghost use Rattle.store.specs.Nets.{count_in_row, count_pairs};
 ghost use Rattle.store.specs.Refusals.{Checks, pair_refusal, Lays};
 ghost use Rattle.store.specs.Matrices.{net_of, bytes_of, matrix_net, empty_net, Makes, SetsSize, Ties, LaysBits};
 ghost use Rattle.store.specs.MatrixLaws.{matrix_lawful};
 
+use crate::pair::Pair;
 use crate::refusal::Refusal;
-use crate::square::{lower, raise, test, wipe};
+use crate::square::wipe;
 use crate::store::Store;
 
 // Stations u and v have bit v mod 8 of byte u * 32 + v div 8: for u below v it says that the
@@ -19,6 +20,7 @@ pub struct Matrix<'a> {
 
 impl<'a> Matrix<'a> {
     // A matrix of one station over the area, whatever its length and its bytes.
+    #[tactic(auto, using(crate::proofs::Marks::lone_net))]
     pub fn over(area: &'a mut [u8]) -> Self
         ensures bytes { bytes_of result ≡ area.old }
         ensures net { net_of result ≡ empty_net 1 }
@@ -42,7 +44,7 @@ impl<'a> Matrix<'a> {
         ensures sets_size { SetsSize n self.old self.new result }
         ensures same_area { self.new.area.ghost_name ≡ self.old.area.ghost_name }
     {
-        if n == 0 || n > 256 {
+        if !(1..=256).contains(&n) {
             return Err(Refusal::SizeOutside);
         }
         if self.area.len() < 8192 {
@@ -57,39 +59,34 @@ impl<'a> Matrix<'a> {
         ensures ties { Ties u v self.old self.new result }
         ensures same_area { self.new.area.ghost_name ≡ self.old.area.ghost_name }
     {
-        self.check_pair(u, v)?;
-        raise(self.area, u, v);
-        raise(self.area, v, u);
+        let pair = self.pair(u, v)?;
+        pair.standing().set(self.area, true);
+        pair.tied().set(self.area, true);
         Ok(())
     }
 
     // How many pairs have the mark: 0 for those that do not stand, 1 for ties, 2 for fill.
+    // The mark stays a number, since customers are told it; an enum would ask more of callers.
     pub fn count(&self, mark: u8) -> usize
         ensures { result ≡ count_pairs (net_of self.now).mark mark (net_of self.now).size }
     {
-        let mut total = 0;
-        for b in 0..self.stations() {
-            total += self.count_row(mark, b);
-        }
-        total
+        (0..self.stations()).map(|b| self.count_row(mark, b)).sum()
     }
 
     // How many stations below b have the mark with b.
     fn count_row(&self, mark: u8, b: usize) -> usize
         ensures { result ≡ count_in_row (net_of self.now).mark mark b b }
     {
-        let mut total = 0;
-        for a in 0..b {
-            if self.pair_mark(a, b) == mark {
-                total += 1;
-            }
-        }
-        total
+        (0..b).filter(|&a| self.pair_mark(a, b) == mark).count()
     }
 
-    // Whether u and v are two stations of the matrix.
-    fn check_pair(&self, u: usize, v: usize) -> Result<(), Refusal>
-        ensures { Checks (pair_refusal (net_of self.now).size u v) result }
+    // The pair of two stations of the matrix, refused by 1 and 2.
+    #[tactic(auto, using(crate::specs::MatrixLaws::size_most, crate::specs::MatrixLaws::size_two))]
+    fn pair(&self, u: usize, v: usize) -> Result<Pair, Refusal>
+        ensures checks { Checks (pair_refusal (net_of self.now).size u v) result }
+        ensures lower { IfOk result (λ pair. pair.lower ≡ min u v) }
+        ensures upper { IfOk result (λ pair. pair.upper ≡ max u v) }
+        ensures long { IfOk result (λ _. 8192 ≤ length self.now.area.now) }
     {
         let n = self.stations();
         if u >= n || v >= n {
@@ -98,36 +95,34 @@ impl<'a> Matrix<'a> {
         if u == v {
             return Err(Refusal::SameStation);
         }
-        Ok(())
+        Ok(Pair {
+            lower: u.min(v) as u8,
+            upper: u.max(v) as u8,
+        })
     }
 
     // How many stations the matrix has.
+    #[tactic(auto, unfolding(crate::specs::Matrices::size_over))]
     fn stations(&self) -> usize
         ensures { result ≡ (net_of self.now).size }
     {
         if self.area.len() < 8192 {
             return 1;
         }
-        self.n.max(1).min(256)
+        self.n.clamp(1, 256)
     }
 
     // The mark of two stations, from their two bits.
     fn pair_mark(&self, u: usize, v: usize) -> u8
         ensures { result ≡ (net_of self.now).mark u v }
     {
-        let lower_station = u.min(v);
-        let upper_station = u.max(v);
-        if u == v || upper_station >= self.stations() {
+        let Ok(pair) = self.pair(u, v) else {
+            return 0;
+        };
+        if !pair.standing().is_set(self.area) {
             return 0;
         }
-        if test(self.area, lower_station, upper_station) != 1 {
-            return 0;
-        }
-        if test(self.area, upper_station, lower_station) == 1 {
-            1
-        } else {
-            2
-        }
+        if pair.tied().is_set(self.area) { 1 } else { 2 }
     }
 }
 
@@ -153,14 +148,12 @@ impl<'a> Store for Matrix<'a> {
         ensures bits { LaysBits u v self.old self.new result }
         ensures same_area { self.new.area.ghost_name ≡ self.old.area.ghost_name }
     {
-        self.check_pair(u, v)?;
+        let pair = self.pair(u, v)?;
         if self.pair_mark(u, v) > 0 {
             return Err(Refusal::PairStands);
         }
-        let lower_station = u.min(v);
-        let upper_station = u.max(v);
-        raise(self.area, lower_station, upper_station);
-        lower(self.area, upper_station, lower_station);
+        pair.standing().set(self.area, true);
+        pair.tied().set(self.area, false);
         Ok(())
     }
 }

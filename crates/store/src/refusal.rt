@@ -1,25 +1,28 @@
-// Why a call outside the field book is refused.
-ghost use Rattle.std.specs.Prelude.{◌≡◌};
-ghost use Rattle.store.specs.Refusals.{number as number_of};
+// Why a call outside the field book is refused, each with its documented number.
+ghost use Rattle.std.specs.Prelude.{◌≡◌, Some};
+ghost use Rattle.store.specs.Refusals.{number as number_of, refused_text};
 
-#[derive(Clone, Copy, Debug, PartialEq)]
+use std::error::Error;
+use std::fmt;
+
+#[derive(Clone, Copy, Debug, PartialEq, Eq, Hash)]
 pub enum Refusal {
-    StationOutside,
-    SameStation,
-    PairStands,
-    NoRoom,
-    SheetLength,
-    SizeOutside,
-    PairMalformed,
-    PairNotAbove,
-    AreaTooShort,
-    StoreHoldsFill,
-    StripTooShort,
-    TakeOutside,
-    AlreadyTaken,
-    ShortfallExceedsRoom,
-    StationsLeft,
-    NumberPastLast,
+    StationOutside = 1,
+    SameStation = 2,
+    PairStands = 3,
+    NoRoom = 4,
+    SheetLength = 5,
+    SizeOutside = 6,
+    PairMalformed = 7,
+    PairNotAbove = 8,
+    AreaTooShort = 9,
+    StoreHoldsFill = 10,
+    StripTooShort = 11,
+    TakeOutside = 12,
+    AlreadyTaken = 13,
+    ShortfallExceedsRoom = 14,
+    StationsLeft = 15,
+    NumberPastLast = 16,
 }
 
 impl Refusal {
@@ -27,23 +30,17 @@ impl Refusal {
     pub fn number(&self) -> u8
         ensures { result ≡ number_of self.now }
     {
-        match self {
-            Refusal::StationOutside => 1,
-            Refusal::SameStation => 2,
-            Refusal::PairStands => 3,
-            Refusal::NoRoom => 4,
-            Refusal::SheetLength => 5,
-            Refusal::SizeOutside => 6,
-            Refusal::PairMalformed => 7,
-            Refusal::PairNotAbove => 8,
-            Refusal::AreaTooShort => 9,
-            Refusal::StoreHoldsFill => 10,
-            Refusal::StripTooShort => 11,
-            Refusal::TakeOutside => 12,
-            Refusal::AlreadyTaken => 13,
-            Refusal::ShortfallExceedsRoom => 14,
-            Refusal::StationsLeft => 15,
-            Refusal::NumberPastLast => 16,
-        }
+        *self as u8
     }
 }
+
+impl fmt::Display for Refusal {
+    ghost output = { λ r. Some (refused_text r) };
+
+    // `refused N`, with the number.
+    fn fmt<W: fmt::Write>(&self, f: &mut fmt::Formatter<W>) -> fmt::Result {
+        write!(f, "refused {}", self.number())
+    }
+}
+
+impl Error for Refusal {}

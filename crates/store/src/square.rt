@@ -1,37 +1,59 @@
 // Bits of a square of 256 by 256 in the first 8,192 bytes of an area.
-ghost use Rattle.std.specs.Prelude.{◌≡◌, ◌+◌, ◌*◌, ◌/◌, ◌%◌, ◌<◌, ◌≤◌, length};
-ghost use Rattle.store.specs.Squares.{bit, raised, lowered, wiped};
+// The area is a slice and no `[u8; 8192]`: no proof was found of what a part of a field that is
+// lent from behind `&mut self`, as by `split_at_mut`, leaves in the field.
+ghost use Rattle.std.specs.Prelude.{◌≡◌, ◌≤◌, cond, length, ◌==◌};
+ghost use Rattle.store.specs.Squares.{place, mask, bit, raised, lowered, wiped};
 
-// The bit of row u and column v.
-pub(crate) fn test(area: &[u8], u: usize, v: usize) -> u8
-    requires { (8192 ≤ length area.now) × ((u < 256) × (v < 256)) }
-    ensures { result ≡ bit area.now u v }
-{
-    (area[u * 32 + v / 8] >> (v % 8)) % 2
+// The bit of a row and a column.
+#[derive(Clone, Copy)]
+pub(crate) struct Bit {
+    pub(crate) row: u8,
+    pub(crate) column: u8,
 }
 
-// Sets it to 1.
-pub(crate) fn raise(area: &mut [u8], u: usize, v: usize)
-    requires { (8192 ≤ length area.old) × ((u < 256) × (v < 256)) }
-    ensures { area.new ≡ raised area.old u v }
-{
-    let i = u * 32 + v / 8;
-    area[i] = area[i] | (1 << (v % 8));
+impl Bit {
+    // The byte that has the bit.
+    fn byte(self) -> usize
+        ensures { result ≡ place self.row self.column }
+    {
+        usize::from(self.row) * 32 + usize::from(self.column / 8)
+    }
+
+    // The byte with this one bit.
+    fn mask(self) -> u8
+        ensures { result ≡ mask self.column }
+    {
+        1 << (self.column % 8)
+    }
+
+    // Whether the bit is 1 in the area.
+    #[tactic(auto, using(crate::proofs::Squares::mask_tests), unfolding(crate::specs::Squares::bit))]
+    pub(crate) fn is_set(self, area: &[u8]) -> bool
+        requires { 8192 ≤ length area.now }
+        ensures { result ≡ (bit area.now self.row self.column == 1) }
+    {
+        area[self.byte()] & self.mask() != 0
+    }
+
+    // Makes the bit 1 or 0.
+    #[tactic(auto, unfolding(crate::specs::Squares::raised, crate::specs::Squares::lowered))]
+    pub(crate) fn set(self, area: &mut [u8], one: bool)
+        requires { 8192 ≤ length area.old }
+        ensures { area.new ≡ cond one (raised area.old self.row self.column) (lowered area.old self.row self.column) }
+    {
+        let byte = self.byte();
+        if one {
+            area[byte] |= self.mask();
+        } else {
+            area[byte] &= !self.mask();
+        }
+    }
 }
 
-// Sets it to 0.
-pub(crate) fn lower(area: &mut [u8], u: usize, v: usize)
-    requires { (8192 ≤ length area.old) × ((u < 256) × (v < 256)) }
-    ensures { area.new ≡ lowered area.old u v }
-{
-    let i = u * 32 + v / 8;
-    area[i] = area[i] & (255 - (1 << (v % 8)));
-}
-
-// Sets every bit to 0.
+// Makes every bit 0.
 pub(crate) fn wipe(area: &mut [u8])
     requires { 8192 ≤ length area.old }
     ensures { area.new ≡ wiped area.old }
 {
-    area[0..8192].fill(0);
+    area[..8192].fill(0);
 }

@@ -20,6 +20,7 @@ pub trait Store {
         ensures { result ≡ (meaning self.now).room };
 
     // 1 for a tie, 2 for fill, and 0 otherwise, also for one station twice or a station outside.
+    // A mark stays a number and no enum: customers are told these numbers.
     fn mark(&self, u: usize, v: usize) -> u8
         ensures { result ≡ (meaning self.now).mark u v };
 

@@ -1,8 +1,13 @@
-use Rattle.std.proofs.Common.{◌-◌, ◌≤◌, length}
+-- What was read so far is the front of the buffer, and the input has lost it.
+use Rattle.std.proofs.Common.{◌-◌, ◌≤◌, length, take}
+use Rattle.std.specs.Io.KnownBytes.{Consumes}
 use Rattle.input.proofs.read_whole.Given as goal
 
 abbrev pub invariant-loop-len : goal.invariant-loop-len
-invariant-loop-len g l = l.len ≤ length l.initial.buffer
+invariant-loop-len g l = record {
+  within : l.len ≤ length l.buffer;
+  consumed : Consumes (g.R.Read.remaining l.initial.input) (g.R.Read.remaining l.input) (take l.len l.buffer);
+}
 
 abbrev pub decreases-loop-len : goal.decreases-loop-len
 decreases-loop-len g l = length l.initial.buffer - l.len

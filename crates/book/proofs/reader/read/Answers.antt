@@ -39,26 +39,18 @@ returns-in_err-make-in-Err c =
     let refused = c.in_err-make-in-Err.ensures.makes.0 in
     absurd (number_some _ (refused ∙ size_passes c.size-size.result (length (bytes_of c.read_book.new.matrix)) (omega (arith, law.some)) (omega (arith, law.most)) (omega (arith, far.long))))
 
-pub returns-in_ok-set_size-in-Ok : goal.returns-in_ok-set_size-in-Ok
-returns-in_ok-set_size-in-Ok c =
+pub returns-in_ok-set_size-in-Ok-clause-reads : goal.returns-in_ok-set_size-in-Ok-clause-reads
+returns-in_ok-set_size-in-Ok-clause-reads c =
     let old = c.args.matrix.now in
     let made = c.in_ok-make.ensures.makes in
     let wide = (size_fits 256 (length (bytes_of old)) made.0).long in
-    let done = c.in-Ok.ensures in
-    let sets = c.in_ok-set_size-in-Ok.ensures in
-    record {
-      reads = (wide, accepted c.args.book.now c.in-Ok.names old c.make.new.self c.read_book.new.matrix c.set_size.new.self wide made.1 done.done c.count.result c.count.ensures sets.sets_size);
-      same_area = sets.same_area ∙ done.same_area ∙ c.in_ok-make.ensures.same_area;
-    }
+    let done = c.in-Ok.ensures.done in
+    (wide, accepted c.args.book.now c.in-Ok.names old c.make.new.self c.read_book.new.matrix c.set_size.new.self wide made.1 done c.count.result c.count.ensures c.in_ok-set_size-in-Ok.ensures.sets_size)
 
-pub returns-in_ok-make-in-Err : goal.returns-in_ok-make-in-Err
-returns-in_ok-make-in-Err c =
+pub returns-in_ok-make-in-Err-clause-reads : goal.returns-in_ok-make-in-Err-clause-reads
+returns-in_ok-make-in-Err-clause-reads c =
     let old = c.args.matrix.now in
     let made = c.in_ok-make.ensures.makes in
     let wide = (size_fits 256 (length (bytes_of old)) made.0).long in
-    let done = c.in-Err.ensures in
-    let again = c.in_ok-make-in-Err.ensures in
-    record {
-      reads = (wide, rejected c.args.book.now c.in-Err.fault old c.make.new.self c.read_book.new.matrix c.make-in-Err.new.self wide made.1 done.done c.size-size.result c.size-size.ensures again.makes);
-      same_area = again.same_area ∙ done.same_area ∙ c.in_ok-make.ensures.same_area;
-    }
+    let done = c.in-Err.ensures.done in
+    rw c.into.ensures (wide, rejected c.args.book.now c.in-Err.fault old c.make.new.self c.read_book.new.matrix c.make-in-Err.new.self wide made.1 done c.size-size.result c.size-size.ensures c.in_ok-make-in-Err.ensures.makes)

@@ -1,9 +1,12 @@
--- The parts of the line stand one right after another, from the start of the area on.
-use Rattle.std.proofs.Common.{arith}
-use Rattle.report.proofs.Areas.{placed_more, wrote_line}
+use Rattle.std.proofs.Common.{ℕ, arith, rules, length-append}
+use Rattle.report.specs.Lines.{accepted_line}
+use Rattle.report.specs.Texts.{Extends}
+use Rattle.report.proofs.Texts.{extends_more, few_digits, wrote_text}
 use Rattle.report.proofs.text.write_accepted.Goals as goal
 
 pub returns : goal.returns
 returns c =
-    let two = placed_more (omega arith) c.put_labelled-at.ensures.placed c.put_labelled-at-2.ensures.placed in
-    wrote_line (omega (arith, c.put.ensures.ends)) (placed_more (omega arith) two c.put.ensures)
+    let all : Extends c.at_start-text.result (accepted_line c.args.stations c.args.ties) c.push.new.self =
+    extends_more (omega arith) (extends_more (omega arith) c.push_labelled.ensures c.push_labelled-2.ensures) c.push.ensures in
+    let w = wrote_text c.at_start-text.ensures.empty (grind (arith, length-append {A = ℕ}, few_digits)) all in
+    search (rules, w)

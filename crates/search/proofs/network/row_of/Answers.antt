@@ -1,6 +1,6 @@
 use Rattle.std.proofs.Common.{◌||◌, eqb, ap, ◌∙◌, arith}
 use Rattle.sets.specs.Sets.{has}
-use Rattle.sets.proofs.Upto.{joins, skips, all_in}
+use Rattle.sets.proofs.Upto.{joins, skips}
 use Rattle.store.specs.Nets.{standing}
 use Rattle.search.proofs.Standing.{stands, absent}
 use Rattle.search.proofs.network.row_of.Goals as goal
@@ -22,11 +22,3 @@ loop-b-preserved g c x =
       | else-mark-gt0 w ↦
           ap (λ s. has s x) w.neighbours-is ∙ c.loop-b.invariant x ∙ skips (standing net a) b x (absent net a b (omega arith))
     ]
-
-pub returns : goal.returns
-returns g c x =
-    let net = g.S.Store.meaning c.args.store.now in
-    let lawful = g.S.Store.lawful c.args.store.now in
-    c.loop-b.invariant x
-    ∙ all_in (standing net c.args.a) c.loop-b.b x
-    (λ l. absent net c.args.a x (lawful.alike c.args.a x ∙ lawful.inside x c.args.a (omega arith)))

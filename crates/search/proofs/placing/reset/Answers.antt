@@ -1,8 +1,8 @@
-use Rattle.std.proofs.Common.{arith}
-use Rattle.search.proofs.Raising.{blank_more}
+use Rattle.std.proofs.Common.{rules, arith, ◌∙◌, length-take}
+use Rattle.search.proofs.Raising.{blanked_front}
 use Rattle.search.proofs.placing.reset.Goals as goal
 
-pub loop-v-preserved : goal.loop-v-preserved
-loop-v-preserved g c =
-    blank_more g.L.Label.blank c.new_blank.result c.loop-v.v _ c.args.labels.now c.loop-v.labels c.loop-v.invariant (omega arith)
-    c.new_blank.ensures (omega arith)
+pub returns : goal.returns
+returns g c =
+    blanked_front _ g.L.Label.BLANK (λ f r q k. search rules) _ _ c.args.n c.args.labels.now c.fill_with.new.self c.fill_with.ensures.ran.1
+    (c.fill_with.ensures.len ∙ simp length-take (omega arith))

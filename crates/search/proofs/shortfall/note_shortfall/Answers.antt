@@ -8,14 +8,14 @@ use Rattle.search.proofs.shortfall.note_shortfall.Goals as goal
 
 module _ (c : goal.After-note_gaps) where
   abbrev g : Graph
-  g = adj c.args.rows.now
+  g = adj c.args.network.now.rows
 
   is_border : (a : ℕ) → In c.intersection.result a ↔ (Touched g (has c.part_of-part.result) a × Edge g c.args.v a)
   is_border a = (
     λ e.
-        let p = and_parts (has c.touching.result a) (has c.row-near.result a) (sym (c.intersection.ensures a) ∙ e) in
-        ((c.touching.ensures a).0 p.0, sym (c.row-near.ensures a) ∙ p.1),
-    λ p. c.intersection.ensures a ∙ and_from _ _ ((c.touching.ensures a).1 p.0) (c.row-near.ensures a ∙ p.1),
+        let p = and_parts (has c.touching.result a) (has c.neighbours-near.result a) (sym (c.intersection.ensures a) ∙ e) in
+        ((c.touching.ensures a).0 p.0, sym (c.neighbours-near.ensures a) ∙ p.1),
+    λ p. c.intersection.ensures a ∙ and_from _ _ ((c.touching.ensures a).1 p.0) (c.neighbours-near.ensures a ∙ p.1),
   )
 
   left_is : (λ x. has c.loop-c.left x && not (has c.part_of-part.result x)) ≡ has c.difference-left.result
@@ -39,5 +39,5 @@ loop-c-preserved c =
 
 pub returns : goal.returns
 returns c =
-    all_laid c.args.n c.args.v (adj c.args.rows.now) c.requires.1 (has c.remove.new.self) (λ x. search rules)
+    all_laid c.args.network.now.size c.args.v (adj c.args.network.now.rows) c.args.network.now.simple (has c.remove.new.self) (λ x. search rules)
     (adj c.loop-c.missing) (has c.loop-c.left) c.loop-c.invariant c.in_default.ensures

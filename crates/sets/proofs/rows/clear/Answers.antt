@@ -1,16 +1,7 @@
-use Rattle.std.proofs.Common.{inl, inr, arith, length-set}
-use Rattle.std.proofs.lemmas.Bool.{cases_lt}
-use Rattle.sets.proofs.Written.{cleared, row_past}
+use Rattle.std.proofs.Common.{refl, arith}
+use Rattle.sets.proofs.Members.{empty_has}
+use Rattle.sets.proofs.Written.{cleared}
 use Rattle.sets.proofs.rows.clear.Goals as goal
 
-pub loop-a-preserved : goal.loop-a-preserved
-loop-a-preserved c = (
-  simp length-set c.loop-a.invariant.0,
-  cleared c.loop-a.rows c.loop-a.a c.empty.result (omega (arith, c.loop-a.invariant.0)) c.empty.ensures c.loop-a.invariant.1,
-)
-
 pub returns : goal.returns
-returns c a b = elim (cases_lt a 256) [
-  | inl l ↦ c.loop-a.invariant.1 a b (omega arith)
-  | inr l ↦ row_past c.loop-a.rows a b (omega (arith, c.loop-a.invariant.0))
-]
+returns c = cleared c.fill.new.self _ (λ i d l. c.fill.ensures.clones i d (omega (arith, c.fill.ensures.len)) refl) empty_has

@@ -1,16 +1,9 @@
-use Rattle.std.proofs.Common.{sym, ◌∙◌, rules}
-use Rattle.std.proofs.lemmas.Bool.{both_ways}
+use Rattle.std.proofs.Common.{rules}
 use Rattle.sets.specs.Sets.{has}
 use Rattle.sets.proofs.Sizes.{size_lt}
 use Rattle.sets.specs.Rows.{adj}
-use Rattle.sets.proofs.Reach.{waiting, extend, alone, linked_start, finish}
+use Rattle.sets.proofs.Reach.{waiting, extend, alone, finish}
 use Rattle.sets.proofs.rows.part_of.Goals as goal
-
-pub returns-then-not-contains : goal.returns-then-not-contains
-returns-then-not-contains c d = (
-  λ e. absurd (both_ways _ (c.empty-seen.ensures d) e),
-  λ k. absurd (both_ways _ (sym c.contains.ensures ∙ c.if-not-contains.true) (linked_start k)),
-)
 
 pub loop-v-init : goal.loop-v-init
 loop-v-init c =

@@ -1,8 +1,9 @@
-use Rattle.sets.specs.Sets.{has}
-use Rattle.sets.proofs.Gather.{fewer}
+use Rattle.std.proofs.Common.{rules}
+use Rattle.sets.proofs.Rising.{left_from, lowest_from}
 use Rattle.sets.proofs.rows.touching.Goals as goal
 
-pub loop-d-smaller : goal.loop-d-smaller
-loop-d-smaller c =
-    fewer (has c.loop-d.left) (has c.remove.new.self) c.in-Some.d c.remove.ensures c.in-Some.ensures.member
-    c.in-Some.ensures.below
+pub loop-d-preserved : goal.loop-d-preserved
+loop-d-preserved c =
+    let low = lowest_from _ _ _ c.in-Some.ensures.steps in
+    let left = left_from _ _ _ c.in-Some.ensures.steps in
+    search rules

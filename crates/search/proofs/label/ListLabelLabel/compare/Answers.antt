@@ -1,24 +1,9 @@
-use Rattle.std.proofs.Common.{true, false, sym, ap, ◌∙◌}
-use Rattle.search.specs.Kinds.{compared, list_less}
+use Rattle.std.proofs.Common.{sym, ◌∙◌, ap₂}
+use Rattle.search.specs.Kinds.{compared}
 use Rattle.search.specs.Lists.{less_is}
 use Rattle.search.proofs.label.ListLabelLabel.compare.Goals as goal
 
-pub returns-then-less : goal.returns-then-less
-returns-then-less c =
-    let a = c.args.self.now in
-    let b = c.args.other.now in
-    sym (ap (λ r. compared r (list_less b a)) (less_is a b true c.if-less.ensures))
-
-pub returns-then-less-2 : goal.returns-then-less-2
-returns-then-less-2 c =
-    let a = c.args.self.now in
-    let b = c.args.other.now in
-    sym (ap (λ r. compared r (list_less b a)) (less_is a b false c.if-less.ensures)
-    ∙ ap (λ r. compared false r) (less_is b a true c.if-less-2.ensures))
-
-pub returns-else-less-2 : goal.returns-else-less-2
-returns-else-less-2 c =
-    let a = c.args.self.now in
-    let b = c.args.other.now in
-    sym (ap (λ r. compared r (list_less b a)) (less_is a b false c.if-less.ensures)
-    ∙ ap (λ r. compared false r) (less_is b a false c.if-less-2.ensures))
+pub returns : goal.returns
+returns c =
+    c.of.ensures
+    ∙ sym (ap₂ compared (less_is c.args.self.now c.args.other.now _ c.less.ensures) (less_is c.args.other.now c.args.self.now _ c.less-2.ensures))

@@ -1,6 +1,6 @@
-use Rattle.std.proofs.Common.{arith}
-use Rattle.sets.proofs.Members.{differs}
+use Rattle.std.proofs.Common.{not, ◌&&◌, refl, rules}
+use Rattle.sets.proofs.Members.{lift}
 use Rattle.sets.proofs.station_set.StationSet.difference.Goals as goal
 
 pub returns : goal.returns
-returns c = differs c.args.self c.args.other (omega arith) (omega arith) (omega arith) (omega arith)
+returns c = lift _ c.args.self c.args.other (λ x y. x && not y) (λ q l. search rules) refl

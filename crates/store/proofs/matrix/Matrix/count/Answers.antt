@@ -1,19 +1,27 @@
-use Rattle.std.proofs.Common.{length, arith}
+use Rattle.std.proofs.Common.{ℕ, length, rules, tests, ◌∙◌, arith}
+use Rattle.std.proofs.lemmas.Iterator.{YieldsList-from_range, YieldsList-from_map}
+use Rattle.std.proofs.lemmas.Iterator.Consumers.{sum_by_from_yields_List, fits_by_from_yields_list}
+use Rattle.std.specs.List.{range_with_len}
+use Rattle.store.specs.Nets.{count_in_row}
 use Rattle.store.specs.Matrices.{net_of}
-use Rattle.store.specs.MatrixLaws.{row_most, size_most}
-use Rattle.store.proofs.Counts.{pairs_more}
+use Rattle.store.specs.MatrixLaws.{size_most, pairs_most}
+use Rattle.store.proofs.Counts.{pairs_from}
 use Rattle.store.proofs.matrix.Matrix.count.Goals as goal
 
-pub overflow_add-total : goal.overflow_add-total
-overflow_add-total c =
-    let most = size_most (length c.args.self.now.area.now) c.args.self.now.n in
-    let row = row_most (net_of c.args.self.now).mark c.args.mark c.loop-b.b c.loop-b.b in
-    omega (arith, c.loop-b.invariant.1)
+pub sum-requires-clause-fits : goal.sum-requires-clause-fits
+sum-requires-clause-fits c =
+    let net = net_of c.args.self.now in
+    let row = λ (b : ℕ). count_in_row net.mark c.args.mark b b in
+    let few = size_most (length c.args.self.now.area.now) c.args.self.now.n in
+    let most = pairs_most net.mark c.args.mark net.size few in
+    fits_by_from_yields_list row (range_with_len 0 net.size) c.map.result _
+    (YieldsList-from_map _ row (YieldsList-from_range 0 _ net.size c.map.ensures.source (omega arith)) c.map.ensures.closure (λ x r q k. search (rules, tests)))
+    (omega (arith, pairs_from net.mark c.args.mark net.size))
 
-pub loop-b-preserved : goal.loop-b-preserved
-loop-b-preserved c =
-    let most = size_most (length c.args.self.now.area.now) c.args.self.now.n in
-    let mark = (net_of c.args.self.now).mark in
-    let row = row_most mark c.args.mark c.loop-b.b c.loop-b.b in
-    let more = pairs_more mark c.args.mark c.loop-b.b in
-    (omega (arith, c.loop-b.invariant.0), omega (arith, c.loop-b.invariant.1))
+pub returns : goal.returns
+returns c =
+    let net = net_of c.args.self.now in
+    let row = λ (b : ℕ). count_in_row net.mark c.args.mark b b in
+    sum_by_from_yields_List row (range_with_len 0 net.size) _ _ c.sum.ensures.ran
+    (YieldsList-from_map _ row (YieldsList-from_range 0 _ net.size c.map.ensures.source (omega arith)) c.map.ensures.closure (λ x r q k. search (rules, tests)))
+    ∙ pairs_from net.mark c.args.mark net.size

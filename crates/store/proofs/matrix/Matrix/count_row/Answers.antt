@@ -1,16 +1,17 @@
-use Rattle.std.proofs.Common.{sym, ◌∙◌, arith}
+use Rattle.std.proofs.Common.{ℕ, eqb, rules, tests, ◌∙◌, arith}
+use Rattle.std.proofs.lemmas.Iterator.{YieldsList-from_range}
+use Rattle.std.proofs.lemmas.Iterator.Consumers.{YieldsList-from_filter, count_from_yields_List}
+use Rattle.std.proofs.lemmas.List.Sums.{length-filter}
+use Rattle.std.specs.List.{range_with_len}
 use Rattle.store.specs.Matrices.{net_of}
-use Rattle.store.proofs.Counts.{row_hit, row_miss}
+use Rattle.store.proofs.Counts.{row_from}
 use Rattle.store.proofs.matrix.Matrix.count_row.Goals as goal
-use Rattle.store.proofs.matrix.Matrix.count_row.Goals.{then-pair_mark-mark, else-pair_mark-mark}
 
-pub loop-a-preserved : goal.loop-a-preserved
-loop-a-preserved c =
-    let mark = (net_of c.args.self.now).mark in
-    let m = c.args.mark in
+pub returns : goal.returns
+returns c =
+    let net = net_of c.args.self.now in
     let b = c.args.b in
-    let a = c.loop-a.a in
-    elim c.if-pair_mark-mark.branch [
-      | then-pair_mark-mark w ↦ (omega (arith, w.total-is, c.loop-a.invariant.0, row_hit mark m b a (sym c.pair_mark.ensures ∙ w.if-pair_mark-mark.true)), omega (arith, w.total-is, c.loop-a.invariant.1))
-      | else-pair_mark-mark w ↦ (omega (arith, w.total-is, c.loop-a.invariant.0, row_miss mark m b a (λ e. w.if-pair_mark-mark.false (c.pair_mark.ensures ∙ e))), omega (arith, w.total-is, c.loop-a.invariant.1))
-    ]
+    let marked = λ (a : ℕ). eqb (net.mark a b) c.args.mark in
+    count_from_yields_List _ _ c.count.ensures.ran
+    (YieldsList-from_filter _ marked (YieldsList-from_range 0 _ b c.filter.ensures.source (omega arith)) c.filter.ensures.closure (λ x r q k. search (rules, tests)))
+    ∙ length-filter marked (range_with_len 0 b) ∙ row_from net.mark c.args.mark b b

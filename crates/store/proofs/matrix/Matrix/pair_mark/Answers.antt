@@ -1,55 +1,22 @@
-use Rattle.std.proofs.Common.{cond, eqb, length, sym, ap, ◌∙◌, arith}
-use Rattle.std.proofs.lemmas.Bool.{eq-eqb, ne_eqb}
-use Rattle.store.specs.Squares.{bit}
-use Rattle.store.specs.Matrices.{size_over}
-use Rattle.store.specs.MatrixLaws.{size_most, size_two, mark_same, mark_outside}
-use Rattle.store.proofs.Marks.{mark_read}
+use Rattle.std.proofs.Common.{true, false, refl}
+use Rattle.store.specs.Matrices.{net_of, bytes_of}
+use Rattle.store.proofs.Marks.{mark_read, refused_mark}
 use Rattle.store.proofs.matrix.Matrix.pair_mark.Goals as goal
-use Rattle.store.proofs.matrix.Matrix.pair_mark.Goals.{then-u-v-via-then-u-v, then-u-v-via-else-u-v+then-upper_station-stations}
 
-pub returns-then-u-v : goal.returns-then-u-v
-returns-then-u-v c =
-    let bytes = c.args.self.now.area.now in
-    let n = size_over (length bytes) c.args.self.now.n in
-    elim c.then-u-v.branch [
-      | then-u-v-via-then-u-v w ↦ sym (mark_same bytes n c.args.u c.args.v w.if-u-v.true)
-      | then-u-v-via-else-u-v+then-upper_station-stations w ↦ sym (mark_outside bytes n c.args.u c.args.v (omega (arith, w.stations.ensures, w.if-upper_station-stations.true)))
-    ]
+pub returns-in_default : goal.returns-in_default
+returns-in_default c = refused_mark (bytes_of c.args.self.now) (net_of c.args.self.now).size c.args.u c.args.v c.in_default.field-0 c.in_default.ensures.checks
 
-pub test-requires : goal.test-requires
-test-requires c =
-    let len = length c.args.self.now.area.now in
-    let most = size_most len c.args.self.now.n in
-    let ne = c.if-u-v.false in
-    (size_two len c.args.self.now.n (omega arith), (omega arith, omega arith))
+pub returns-then-not-is_set : goal.returns-then-not-is_set
+returns-then-not-is_set c =
+    let pair = c.in-Ok.ensures in
+    mark_read (bytes_of c.args.self.now) (net_of c.args.self.now).size c.args.u c.args.v _ _ 0 false _ pair.checks pair.lower pair.upper (cc) refl refl
 
-pub returns-then-test-ne1 : goal.returns-then-test-ne1
-returns-then-test-ne1 c =
-    let bytes = c.args.self.now.area.now in
-    let lo = c.min-lower_station.result in
-    let hi = c.max-upper_station.result in
-    mark_read bytes _ c.args.u c.args.v lo hi 0 c.min-lower_station.ensures c.max-upper_station.ensures c.if-u-v.false (omega arith)
-    (sym (ap (λ t. cond t (cond (eqb (bit bytes hi lo) 1) 1 2) 0) (ne_eqb (bit bytes lo hi) 1 (λ e. c.if-test-ne1.true (c.test.ensures ∙ e)))))
+pub returns-then-is_set : goal.returns-then-is_set
+returns-then-is_set c =
+    let pair = c.in-Ok.ensures in
+    mark_read (bytes_of c.args.self.now) (net_of c.args.self.now).size c.args.u c.args.v _ _ 1 true true pair.checks pair.lower pair.upper (cc) (cc) refl
 
-pub test-requires-2 : goal.test-requires-2
-test-requires-2 c =
-    let len = length c.args.self.now.area.now in
-    let most = size_most len c.args.self.now.n in
-    let ne = c.if-u-v.false in
-    (size_two len c.args.self.now.n (omega arith), (omega arith, omega arith))
-
-pub returns-then-test-eq1 : goal.returns-then-test-eq1
-returns-then-test-eq1 c =
-    let bytes = c.args.self.now.area.now in
-    let lo = c.min-lower_station.result in
-    let hi = c.max-upper_station.result in
-    mark_read bytes _ c.args.u c.args.v lo hi 1 c.min-lower_station.ensures c.max-upper_station.ensures c.if-u-v.false (omega arith)
-    (sym (ap (λ t. cond t (cond (eqb (bit bytes hi lo) 1) 1 2) 0) (eq-eqb (bit bytes lo hi) 1 (omega arith)) ∙ ap (λ t. cond t 1 2) (eq-eqb (bit bytes hi lo) 1 (omega arith))))
-
-pub returns-else-test-eq1 : goal.returns-else-test-eq1
-returns-else-test-eq1 c =
-    let bytes = c.args.self.now.area.now in
-    let lo = c.min-lower_station.result in
-    let hi = c.max-upper_station.result in
-    mark_read bytes _ c.args.u c.args.v lo hi 2 c.min-lower_station.ensures c.max-upper_station.ensures c.if-u-v.false (omega arith)
-    (sym (ap (λ t. cond t (cond (eqb (bit bytes hi lo) 1) 1 2) 0) (eq-eqb (bit bytes lo hi) 1 (omega arith)) ∙ ap (λ t. cond t 1 2) (ne_eqb (bit bytes hi lo) 1 (λ e. c.if-test-eq1.false (c.test-2.ensures ∙ e)))))
+pub returns-else-is_set : goal.returns-else-is_set
+returns-else-is_set c =
+    let pair = c.in-Ok.ensures in
+    mark_read (bytes_of c.args.self.now) (net_of c.args.self.now).size c.args.u c.args.v _ _ 2 true false pair.checks pair.lower pair.upper (cc) (cc) refl

@@ -1,12 +1,10 @@
-use Rattle.std.proofs.Common.{length, refl, ap, arith, rules}
-use Rattle.store.specs.Matrices.{counted, matrix_mark}
-use Rattle.store.proofs.Marks.{size_is}
+use Rattle.std.proofs.Common.{◌≡◌, length, refl, rules}
+use Rattle.store.specs.Matrices.{size_refusal}
+use Rattle.store.proofs.Marks.{resized_net}
 use Rattle.store.proofs.matrix.Matrix.set_size.Goals as goal
 
-pub returns : goal.returns
-returns c =
+pub returns-clause-sets_size : goal.returns-clause-sets_size
+returns-clause-sets_size c =
     let bytes = c.args.self.now.area.now in
-    record {
-      sets_size = (search rules, refl, refl, ap (λ s. counted s (matrix_mark bytes s)) (size_is (length bytes) c.args.n (omega arith) (omega arith) (omega arith)));
-      same_area = refl;
-    }
+    let passes : size_refusal c.args.n (length bytes) ≡ 0 = search rules in
+    (passes, refl, refl, resized_net bytes c.args.n passes)

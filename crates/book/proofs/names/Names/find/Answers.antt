@@ -1,0 +1,19 @@
+use Rattle.std.proofs.Common.{◌≡◌, take, length, rules, tests, ◌∙◌}
+use Rattle.std.proofs.lemmas.Iterator.Search.{position_from_yields_List}
+use Rattle.std.proofs.lemmas.Iterator.Adapters.{position_from-zero}
+use Rattle.std.proofs.lemmas.Iterator.{YieldsList-from_slice}
+use Rattle.book.proofs.Table.{is_name, found_span}
+use Rattle.book.proofs.names.Names.find.Goals as goal
+
+long : (c : goal.After-position) → length c.args.self.now.spans ≡ 256
+long c = search rules
+
+pub returns : goal.returns
+returns c =
+    let t = c.args.self.now in
+    let b = c.args.book.now in
+    let a = c.args.name.now in
+    let ss = take t.count t.spans in
+    position_from_yields_List (is_name b a) _ _ c.position.result c.position.ensures.ran (YieldsList-from_slice ss cc) (λ x b q k. search (rules, tests))
+    ∙ position_from-zero (is_name b a) ss
+    ∙ found_span b t a c.requires (long c)
