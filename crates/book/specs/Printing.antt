@@ -4,4 +4,5 @@ use Rattle.book.specs.Faults.{Fault}
 
 -- "refused NUMBER line LINE byte BYTE"
 abbrev pub fault_text : Fault → List ℕ
-fault_text fault = codes "refused " ++ decimal fault.spot.number ++ codes " line " ++ decimal fault.line ++ codes " byte " ++ decimal fault.spot.byte
+fault_text fault =
+    (codes "refused " ++ decimal fault.spot.number) ++ (codes " line " ++ decimal fault.line) ++ (codes " byte " ++ decimal fault.spot.byte)

@@ -12,10 +12,10 @@ pub enum Layer {
 
 // What is wrong, by its number, and at which byte of the book, from 0.
 #[derive(Clone, Copy, Debug, PartialEq, Eq, Hash)]
-pub struct Spot {
-    pub layer: Layer,
-    pub number: u8,
-    pub byte: usize,
+pub(crate) struct Spot {
+    layer: Layer,
+    number: u8,
+    byte: usize,
 }
 
 impl Spot {
@@ -33,9 +33,9 @@ impl Spot {
 
 // The same with the line, from 1.
 #[derive(Clone, Copy, Debug, PartialEq, Eq, Hash)]
-pub struct Fault {
-    pub spot: Spot,
-    pub line: usize,
+pub(crate) struct Fault {
+    spot: Spot,
+    line: usize,
 }
 
 // A name above 12 bytes, at its first byte, or a byte that a name may not hold, at that byte.

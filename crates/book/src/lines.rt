@@ -7,7 +7,7 @@ use crate::faults::{FaultInLine, LineFault};
 use crate::part::Part;
 use crate::words::Word;
 
-// A line of the right shape: a station's name, or the names of a tie. A form that the customer named.
+// A line of the right shape: a station's name, or the names of a tie. A form that the project prescribes.
 #[derive(Clone, Copy)]
 pub enum Line<'a> {
     Station(Word<'a>),

@@ -128,6 +128,7 @@ fn draw(matrix: &mut Matrix<'_>, tie: Option<(usize, usize)>)
     ensures same_area { matrix.new.area.ghost_name ≡ matrix.old.area.ghost_name }
 {
     if let Some((u, v)) = tie {
+        // Two different stations of the matrix, so the tie is never refused.
         let _ = matrix.tie(u, v);
     }
 }
@@ -154,7 +155,7 @@ fn read_book(book: &[u8], matrix: &mut Matrix<'_>) -> Result<Names, BookFault>
 }
 
 // Why a book is not read: the store refuses, or the book has a fault.
-#[derive(Clone, Copy, Debug, PartialEq)]
+#[derive(Clone, Copy, Debug, PartialEq, Eq, Hash)]
 pub enum ReadError {
     Store(Refusal),
     Book(BookFault),
@@ -184,6 +185,7 @@ pub fn read(book: &[u8], matrix: &mut Matrix<'_>) -> Result<Names, ReadError>
 {
     let size = matrix.size();
     matrix.make(256)?;
+    // No `?`: the matrix is set right before a fault goes on.
     match read_book(book, matrix) {
         Ok(names) => {
             matrix.set_size(names.count())?;

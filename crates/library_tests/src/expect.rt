@@ -2,6 +2,7 @@
 use report::report;
 
 // Every byte is the value.
+// The other crate of tests has the same one line: a crate of its own for it would be no plainer.
 pub(crate) fn all(bytes: &[u8], value: u8) -> bool {
     bytes.iter().all(|byte| *byte == value)
 }

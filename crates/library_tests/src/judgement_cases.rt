@@ -58,23 +58,13 @@ fn refuses_book(book: &[u8], line: &[u8]) -> bool {
 }
 
 // Which of the lent slices is one shorter than it has to be.
-#[derive(Clone, Copy)]
+#[derive(Clone, Copy, Default)]
 struct Short {
     area: bool,
     out: bool,
     row: bool,
     strip: bool,
     marks: bool,
-}
-
-impl Short {
-    const NONE: Short = Short {
-        area: false,
-        out: false,
-        row: false,
-        strip: false,
-        marks: false,
-    };
 }
 
 // The judgement with such slices is refused, and all bytes stay.
@@ -132,13 +122,13 @@ fn tells_the_fault_of_a_book(rt: HostRuntime) {
 fn refuses_short_areas(rt: HostRuntime) {
     let area = Short {
         area: true,
-        ..Short::NONE
+        ..Short::default()
     };
     let out = Short {
         out: true,
-        ..Short::NONE
+        ..Short::default()
     };
-    let all = Short {
+    let each = Short {
         area: true,
         out: true,
         row: true,
@@ -147,7 +137,7 @@ fn refuses_short_areas(rt: HostRuntime) {
     };
     assert!(rt; stops(area, Refusal::AreaTooShort));
     assert!(rt; stops(out, Refusal::AreaTooShort));
-    assert!(rt; stops(all, Refusal::AreaTooShort));
+    assert!(rt; stops(each, Refusal::AreaTooShort));
     assert!(rt; stops(Short { strip: true, ..out }, Refusal::AreaTooShort));
 }
 
@@ -156,15 +146,15 @@ fn refuses_short_areas(rt: HostRuntime) {
 fn refuses_short_rows_and_strips(rt: HostRuntime) {
     let row = Short {
         row: true,
-        ..Short::NONE
+        ..Short::default()
     };
     let strip = Short {
         strip: true,
-        ..Short::NONE
+        ..Short::default()
     };
     let marks = Short {
         marks: true,
-        ..Short::NONE
+        ..Short::default()
     };
     assert!(rt; stops(row, Refusal::StripTooShort));
     assert!(rt; stops(strip, Refusal::StripTooShort));

@@ -1,6 +1,4 @@
 // Field books at the bounds: 256 stations and 65,536 bytes.
-ghost use Rattle.std.specs.Prelude.{◌≤◌, length};
-
 use crate::expect::says;
 use std::array;
 
@@ -8,18 +6,18 @@ use std::array;
 const STATION_BYTES: usize = 1280;
 
 // The two letters of station k, which is its number in letters A to P.
-fn name(k: usize) -> [u8; 2] {
-    [b'A' + (k / 16 % 16) as u8, b'A' + (k % 16) as u8]
+fn name(k: u8) -> [u8; 2] {
+    [b'A' + k / 16, b'A' + k % 16]
 }
 
 // The line of station k.
-fn station_line(k: usize) -> [u8; 5] {
+fn station_line(k: u8) -> [u8; 5] {
     let [high, low] = name(k);
     [b'S', b' ', high, low, b'\n']
 }
 
 // The line of the tie of two stations.
-fn tie_line(u: usize, v: usize) -> [u8; 8] {
+fn tie_line(u: u8, v: u8) -> [u8; 8] {
     let [u_high, u_low] = name(u);
     let [v_high, v_low] = name(v);
     [b'T', b' ', u_high, u_low, b' ', v_high, v_low, b'\n']
@@ -27,37 +25,45 @@ fn tie_line(u: usize, v: usize) -> [u8; 8] {
 
 // The lines of 256 stations, AA to PP.
 pub(crate) fn stations() -> [u8; STATION_BYTES] {
-    array::from_fn(|at| station_line(at / 5)[at % 5])
+    array::from_fn(|at| station_line((at / 5) as u8)[at % 5])
 }
 
 // The lines of 8,032 different ties of stations 0 to 40 with stations 41 to 240.
 fn different_ties() -> [u8; 64256] {
-    array::from_fn(|at| tie_line(at / 8 / 200, 41 + at / 8 % 200)[at % 8])
+    array::from_fn(|at| tie_line((at / 8 / 200) as u8, (41 + at / 8 % 200) as u8)[at % 8])
+}
+
+// Byte `at` of two stations and ties of them.
+fn tied_byte(at: usize) -> u8 {
+    if at < 9 {
+        b"S A\nS BB\n"[at]
+    } else {
+        b"T A BB\n"[(at - 9) % 7]
+    }
 }
 
 // Two stations and as many ties of them as make 65,536 bytes, and one byte more; byte 65,535 is replaced.
 fn longest(last: u8) -> [u8; 65537] {
-    let mut book = array::from_fn(|at| b"T A BB\n"[(at + 5) % 7]);
-    book[0..9].copy_from_slice(b"S A\nS BB\n");
-    book[65535] = last;
-    book
+    array::from_fn(|at| if at == 65535 { last } else { tied_byte(at) })
 }
 
 // The lines of 256 stations, the lines after them, and bytes 0.
 fn with_stations(lines: &[u8]) -> [u8; 65536] {
-    let mut book = [0; 65536];
     let first = stations();
-    for (place, byte) in book.iter_mut().zip(first.iter().chain(lines)) {
-        *place = *byte;
-    }
-    book
+    array::from_fn(|at| {
+        if at < STATION_BYTES {
+            first[at]
+        } else {
+            lines.get(at - STATION_BYTES).copied().unwrap_or(0)
+        }
+    })
 }
 
 // What the report says of 256 stations and the lines after them.
-fn after_256_stations(lines: &[u8], line: &[u8]) -> bool
-    requires { length lines.now ≤ 64256 }
-{
-    says(&with_stations(lines)[0..STATION_BYTES + lines.len()], line)
+fn after_256_stations(lines: &[u8], line: &[u8]) -> bool {
+    with_stations(lines)
+        .get(0..STATION_BYTES.saturating_add(lines.len()))
+        .is_some_and(|book| says(book, line))
 }
 
 // 256 stations are accepted, and the first and the last of them can be tied.

@@ -3,7 +3,7 @@ use crate::expect::all;
 use store::{Matrix, Refusal, Store};
 
 // A call on a matrix, and last the answer that it must give.
-// A table: with the calls in the tests themselves, a test of twelve took 25 s to prove, and closures say no more.
+// A table: a row is one call and its answer, where a closure would name the matrix again in each row and say no more.
 #[derive(Clone, Copy)]
 pub(crate) enum Step {
     Make(usize, Result<(), Refusal>),

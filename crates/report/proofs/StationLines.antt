@@ -5,9 +5,7 @@ use Rattle.book.specs.declared.names.Names.{Names}
 use Rattle.book.specs.Grammar.{Name}
 use Rattle.book.specs.Tables.{name_at, names_in}
 use Rattle.book.proofs.Table.{names_at}
-use Rattle.report.specs.declared.text.Text.{Text}
 use Rattle.report.specs.Lines.{labelled, newline}
-use Rattle.report.specs.Texts.{Extends}
 use Rattle.search.specs.declared.judging.Verdict.{Verdict}
 use Rattle.search.specs.declared.judging.Verdict.TheVariants.{Chordal, Ring}
 use Rattle.report.specs.Verdicts.{station_line, station_lines, shown, verdict_text, Named, ShowsVerdict}
@@ -27,21 +25,6 @@ lines_more mark names stations i l =
     ap (station_lines mark names) (take_more stations i 0 l)
     ∙ lines_append mark names (take i stations) (get_or stations i 0 ∷ [])
     ∙ ap (λ t. station_lines mark names (take i stations) ++ t) (append-nil (station_line mark (get_or names (get_or stations i 0) [])))
-
--- no text leaves the area as it was
-pub extends_none : (text : Text) → Extends text [] text
-extends_none text =
-    let at = text.len in
-    let area = text.area.now in
-    let z : at + 0 ≡ at = omega arith in
-    record {
-      same_area = refl;
-      long = refl;
-      placed = record {
-        area = sym (ap (λ front. front ++ drop (at + 0) area) (append-nil (take at area)) ∙ ap (λ k. take at area ++ drop k area) z ∙ take-append-drop at area);
-        ends = omega arith;
-      };
-    }
 
 -- where there is room for all lines there is for those up to one station
 pub lines_within :

@@ -22,11 +22,6 @@ newline = 10 ∷ []
 abbrev pub accepted_line : ℕ → ℕ → List ℕ
 accepted_line stations ties = labelled (codes "stations ") stations ++ labelled (codes " ties ") ties ++ newline
 
--- "refused NUMBER line LINE byte BYTE" and the end of the line
-abbrev pub refused_line : ℕ → ℕ → ℕ → List ℕ
-refused_line number line byte =
-    labelled (codes "refused ") number ++ labelled (codes " line ") line ++ labelled (codes " byte ") byte ++ newline
-
 -- the area begins with the line, of so many bytes, and goes on as before
 pub record Wrote (line before after : List ℕ) (written : ℕ) : Type 0 where
   pub long : written ≡ length line

@@ -1,25 +1,26 @@
 -- What the report promises.
-use Rattle.std.specs.Prelude.{◌≡◌, ℕ, ◌<◌, ◌≤◌, cond, ◌⊎◌, List, ◌++◌, length, take, codes, Ok, Err, IsOkAnd, Result}
+use Rattle.std.specs.Prelude.{◌≡◌, ℕ, ◌<◌, ◌≤◌, cond, ◌⊎◌, List, ◌++◌, length, take, Ok, Err, IsOkAnd, Result}
 use Rattle.store.specs.declared.refusal.Refusal.{Refusal}
 use Rattle.store.specs.Nets.{count_pairs}
-use Rattle.store.specs.Refusals.{number}
+use Rattle.store.specs.Refusals.{number, refused_text}
 use Rattle.store.specs.Squares.{wiped}
 use Rattle.book.specs.declared.reader.ReadError.{ReadError}
 use Rattle.book.specs.declared.reader.ReadError.TheVariants.{Store, Book}
 use Rattle.book.specs.Faults.{Fault, fault_of}
 use Rattle.book.specs.FirstFault.{FirstFault}
 use Rattle.book.specs.Grammar.{Name, FieldBook, tied}
+use Rattle.book.specs.Printing.{fault_text}
 use Rattle.book.specs.Promise.{Holds}
 use Rattle.book.specs.Reading.{reading}
-use Rattle.report.specs.Lines.{labelled, newline, accepted_line, refused_line, Wrote}
+use Rattle.report.specs.Lines.{newline, accepted_line, Wrote}
 
 -- how many pairs of stations a field book ties
 abbrev pub tie_count : List Name → List (Name × Name) → ℕ
 tie_count names ties = count_pairs (λ u v. cond (tied names ties u v) 1 0) 1 (length names)
 
--- the line of a refused book
+-- the line of a refused book: the text that its fault prints as, and the end of the line
 abbrev pub fault_line : Fault → List ℕ
-fault_line fault = refused_line fault.spot.number fault.line fault.spot.byte
+fault_line fault = fault_text fault ++ newline
 
 -- why a book is not read, as an answer: a fault by its line at the start of the output, and the store's refusal as it is
 abbrev pub Explains : ReadError → List ℕ → List ℕ → Result ℕ Refusal → Type 0
@@ -42,4 +43,4 @@ Reports book area area' out out' (Err refusal) =
 -- an answer as it is printed: as many bytes of the text as it counts, or "refused NUMBER" and the end of the line
 abbrev pub answer_text : List ℕ → Result ℕ Refusal → List ℕ
 answer_text text (Ok written) = take written text
-answer_text text (Err refusal) = labelled (codes "refused ") (number refusal) ++ newline
+answer_text text (Err refusal) = refused_text refusal ++ newline

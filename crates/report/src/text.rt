@@ -67,7 +67,8 @@ pub(crate) fn write_accepted(out: &mut [u8], stations: usize, ties: usize) -> us
     text.len()
 }
 
-// Writes "refused NUMBER line LINE byte BYTE" and the end of the line at the start of the area; how many bytes that is.
+// Writes what `{}` prints of the fault, "refused NUMBER line LINE byte BYTE", and the end of the line at the start of the area; how many
+// bytes that is. Part by part, for the reason that stands at `push_labelled`.
 #[tactic(auto, using(crate::proofs::Texts::few_digits))]
 fn write_fault(out: &mut [u8], fault: BookFault) -> usize
     requires { 96 ≤ length out.old }

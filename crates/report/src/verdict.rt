@@ -19,7 +19,8 @@ fn push_station(text: &mut Text<'_>, mark: &[u8], name: &[u8])
     text.push(b"\n");
 }
 
-// Adds a line for each of the stations, with the mark and its name.
+// Adds a line for each of the stations, with the mark and its name. Book and names stay two: a pair of them, made for three private
+// functions, would be no plainer.
 fn push_stations(text: &mut Text<'_>, mark: &[u8], book: &[u8], names: &Names, stations: &[u8])
     requires named { Named book.now names.now stations.now }
     requires room { HasRoom text.old (station_lines mark.now (names_in book.now names.now) stations.now) }

@@ -185,16 +185,3 @@ module _ {n : ℕ} {g : Graph} (s : Simple n g) {v a b : ℕ} (f : Short g v a b
           let q = is_long in
           subst (λ m. Edge g (at ring (suc i)) (at ring (suc j)) ↔ ((suc j ≡ suc (suc i)) ⊎ ((suc i ≡ 0) × (suc (suc j) ≡ m)))) (sym q)
           (between i j (omega arith) (omega arith))
-
-pub traced_start : (g lay : Graph) (v a d : ℕ) (ring : List ℕ) → ring ≡ v ∷ a ∷ [] → lay d a ≡ true → Traced g lay v a d d ring
-traced_start g lay v a d ring e l =
-    record {
-      long = (let n = ap length e in omega arith);
-      head = ap (λ xs. at xs 0) e;
-      first = ap (λ xs. at xs 1) e;
-      levels = λ i j s h.
-          let z : suc i ≡ 1 = omega arith in
-          let q : j ≡ d = omega arith in
-          ap₂ lay q (ap₂ at e z) ∙ l;
-      joins = λ i h. absurd (omega arith);
-    }

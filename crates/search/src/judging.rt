@@ -1,6 +1,7 @@
 // The public calls: the order of a network by a search, and whether the network is chordal.
-ghost use Rattle.std.specs.Prelude.{◌≡◌};
+ghost use Rattle.std.specs.Prelude.{◌≡◌, ◌≤◌, length};
 ghost use Rattle.search.specs.Calls.{Searches, Judges};
+ghost use Rattle.search.specs.Strips.{fronted};
 
 use crate::label::Label;
 use crate::marks::Marks;
@@ -19,6 +20,14 @@ pub enum Verdict {
     Ring(usize),
 }
 
+// The strip begins with the stations.
+fn put_front(strip: &mut [u8], stations: &[u8])
+    requires { length stations.now ≤ length strip.old }
+    ensures { strip.new ≡ fronted stations.now strip.old }
+{
+    strip[..stations.len()].copy_from_slice(stations);
+}
+
 // Writes the search's order, from position 0, at the start of the strip; each of the first n labels is then its station's last.
 // Refused by 11 where strip or row is below 256 entries.
 pub fn search<S: Store, L: Label + Copy>(
@@ -34,7 +43,7 @@ pub fn search<S: Store, L: Label + Copy>(
     }
     let network = Network::of(store);
     let order = place_all(&network, labels);
-    order.put_front(strip);
+    put_front(strip, order.as_slice());
     Ok(())
 }
 
@@ -55,11 +64,11 @@ pub fn judge<S: Store, L: Label + Copy>(
     let guard = Marks::over(marks);
     let network = Network::of(store);
     let order = place_all(&network, labels);
-    if is_perfect(&network, &order) {
-        order.put_front(strip);
+    if is_perfect(&network, order.as_slice()) {
+        put_front(strip, order.as_slice());
         return Ok(Verdict::Chordal);
     }
     let ring = find_ring(&network, guard.strip);
-    ring.put_front(strip);
+    put_front(strip, ring.as_slice());
     Ok(Verdict::Ring(ring.len()))
 }

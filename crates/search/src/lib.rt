@@ -9,7 +9,6 @@ mod perfect;
 mod placing;
 mod rings;
 mod shortfall;
-mod stations;
 pub mod theorems;
 
 pub use judging::{Verdict, judge, search};

@@ -6,7 +6,7 @@ ghost use Rattle.sets.specs.Sets.{has};
 ghost use Rattle.sets.specs.Rows.{adj, In, Touched, gaps};
 ghost use Rattle.store.specs.Nets.{standing};
 
-use sets::rows::{clear, note_gaps, part_of, row, touching, widen};
+use sets::rows::{note_gaps, part_of, row, touching, widen};
 use sets::{Rows, StationSet};
 use store::Store;
 
@@ -92,7 +92,6 @@ pub fn rows_of<S: Store>(store: &S) -> Rows
     ensures { (a b : ℕ) → adj result a b ≡ standing (S.meaning store.now) a b }
 {
     let mut rows = [StationSet::EMPTY; 256];
-    clear(&mut rows);
     for a in 0..store.size() {
         widen(&mut rows, a as u8, row_of(store, a));
     }

@@ -6,7 +6,6 @@ ghost use Rattle.sets.specs.Rows.{adj};
 ghost use Rattle.search.specs.Cliques.{Clique, Joined};
 
 use crate::network::Network;
-use crate::stations::Stations;
 use sets::StationSet;
 
 // Whether a is a neighbour of every other member.
@@ -26,12 +25,12 @@ fn is_clique(network: &Network, members: StationSet) -> bool
 }
 
 // Whether the later neighbours of each station are pairwise neighbours.
-pub(crate) fn is_perfect(network: &Network, order: &Stations) -> bool
+pub(crate) fn is_perfect(network: &Network, order: &[u8]) -> bool
     requires { Order network.now.size order.now }
     ensures { (result ≡ true) ↔ Perfect network.now.size (adj network.now.rows) order.now }
 {
     let mut later = StationSet::empty();
-    for &v in order.as_slice().iter().rev() {
+    for &v in order.iter().rev() {
         if !is_clique(network, network.neighbours(v).intersection(later)) {
             return false;
         }

@@ -6,7 +6,7 @@ ghost use Rattle.search.specs.Searches.{Unexceeded, Exceeded, Picked, Blanked, R
 
 use crate::label::{Comparison, Label};
 use crate::network::Network;
-use crate::stations::Stations;
+use arrayvec::ArrayVec;
 use sets::StationSet;
 
 // The first n labels are blank again.
@@ -65,9 +65,9 @@ fn raise_all<L: Label + Copy>(labels: &mut [L], which: StationSet, position: u8)
 }
 
 // The order: the positions from n - 1 down to 0 are given out, each to the station that is picked, and its unplaced neighbours are raised.
-pub(crate) fn place_all<L: Label + Copy>(network: &Network, labels: &mut [L]) -> Stations
+pub(crate) fn place_all<L: Label + Copy>(network: &Network, labels: &mut [L]) -> ArrayVec<u8, 256>
     requires { 256 ≤ length labels.old }
-    ensures { SearchMade L.BLANK L.raised L.less network.now.size (adj network.now.rows) result labels.old labels.new }
+    ensures { SearchMade L.BLANK L.raised L.less network.now.size (adj network.now.rows) result.items labels.old labels.new }
 {
     let n = network.size();
     reset(labels, n);
@@ -85,5 +85,7 @@ pub(crate) fn place_all<L: Label + Copy>(network: &Network, labels: &mut [L]) ->
         let near = network.neighbours(v).intersection(unplaced);
         raise_all(labels, near, p as u8);
     }
-    Stations::first(entries, n)
+    let mut order = ArrayVec::from(entries);
+    order.truncate(n);
+    order
 }

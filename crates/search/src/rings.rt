@@ -9,7 +9,7 @@ ghost use Rattle.search.specs.Layers.{level, Layered, Descends, Traced};
 use crate::marks::{mark_all, marked};
 use crate::network::Network;
 use crate::shortfall::note_shortfall;
-use crate::stations::Stations;
+use arrayvec::ArrayVec;
 use sets::StationSet;
 use sets::rows::row;
 
@@ -45,6 +45,7 @@ fn mark_layers(network: &Network, within: StationSet, a: u8, b: u8, marks: &mut 
     marks[b as usize] = 1;
     let mut left = within;
     let mut d = 0;
+    // d counts no index: it is the distance of the layer.
     while left.contains(a) {
         let last = marked(marks, d as u8 + 1);
         let fresh = network.touching(last).intersection(left);
@@ -56,13 +57,13 @@ fn mark_layers(network: &Network, within: StationSet, a: u8, b: u8, marks: &mut 
 }
 
 // The stations v and a, and then from each layer below that of a a neighbour of the station before.
-fn trace(network: &Network, marks: &[u8; 256], v: u8, a: u8, d: usize) -> Stations
+fn trace(network: &Network, marks: &[u8; 256], v: u8, a: u8, d: usize) -> ArrayVec<u8, 256>
     requires few { d ≤ 254 }
     requires start { level marks.now d a ≡ true }
     requires descends { Descends (adj network.now.rows) (level marks.now) d }
-    ensures { Traced (adj network.now.rows) (level marks.now) v a d 0 result }
+    ensures { Traced (adj network.now.rows) (level marks.now) v a d 0 result.items }
 {
-    let mut ring = Stations::new();
+    let mut ring = ArrayVec::new();
     ring.push(v);
     ring.push(a);
     let mut x = a;
@@ -78,10 +79,10 @@ fn trace(network: &Network, marks: &[u8; 256], v: u8, a: u8, d: usize) -> Statio
 }
 
 // A ring of a network that is not chordal.
-pub(crate) fn find_ring(network: &Network, marks: &mut [u8]) -> Stations
+pub(crate) fn find_ring(network: &Network, marks: &mut [u8]) -> ArrayVec<u8, 256>
     requires room { 256 ≤ length marks.old }
     requires ringed { Chordal network.now.size (adj network.now.rows) → ⊥ }
-    ensures ring { Ring network.now.size (adj network.now.rows) result }
+    ensures ring { Ring network.now.size (adj network.now.rows) result.items }
     ensures rest { after 256 marks.new ≡ after 256 marks.old }
 {
     let Some((v, a, b)) = missing_pair(network) else {

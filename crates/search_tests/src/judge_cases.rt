@@ -12,7 +12,7 @@ fn all_say_of(n: usize, ties: &[(usize, usize)], expected: Verdict) -> bool {
     make_tied(&mut matrix, n, ties).is_ok() && all_say(&matrix, expected)
 }
 
-// A ring of the length is found by labels of the kind.
+// A ring of the length is found by these labels.
 fn finds_ring<L: Label + Copy>(labels: &mut [L], length: usize) -> bool {
     let mut area = [0; 8192];
     let mut matrix = Matrix::over(&mut area);

@@ -19,6 +19,7 @@ fn shows(matrix: &Matrix<'_>, verdict: Verdict, strip: &[u8; 300]) -> bool {
 }
 
 // The judge says what is expected, shows it in the strip and cleans the marks.
+// Labels are lent, here and below: tried with an array made inside, and that 256 of any kind fit in memory did not close.
 pub(crate) fn says<L: Label + Copy>(
     matrix: &Matrix<'_>,
     labels: &mut [L],
@@ -44,27 +45,24 @@ fn search_orders<L: Label + Copy>(matrix: &Matrix<'_>, labels: &mut [L], order: 
     search(matrix, labels, &mut strip) == Ok(()) && begins(&strip, order)
 }
 
-// So does the judge, where the network is chordal as expected.
+// The judge says what is expected, and writes the order too where the network is chordal.
 fn judge_orders<L: Label + Copy>(
     matrix: &Matrix<'_>,
     labels: &mut [L],
-    chordal: bool,
+    expected: Verdict,
     order: &[u8],
 ) -> bool {
     let mut strip = patterned::<300>();
-    match judge(matrix, labels, &mut strip, &mut [0; 256]) {
-        Ok(Verdict::Chordal) => chordal && begins(&strip, order),
-        Ok(Verdict::Ring(_)) => !chordal,
-        Err(_) => false,
-    }
+    let said = judge(matrix, labels, &mut strip, &mut [0; 256]) == Ok(expected);
+    said && (expected != Verdict::Chordal || begins(&strip, order))
 }
 
-// Both write the order.
+// The search writes the order, and the judge says what is expected.
 pub(crate) fn orders<L: Label + Copy>(
     matrix: &Matrix<'_>,
     labels: &mut [L],
-    chordal: bool,
+    expected: Verdict,
     order: &[u8],
 ) -> bool {
-    search_orders(matrix, labels, order) & judge_orders(matrix, labels, chordal, order)
+    search_orders(matrix, labels, order) & judge_orders(matrix, labels, expected, order)
 }

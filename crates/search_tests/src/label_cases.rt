@@ -17,18 +17,20 @@ fn raised_times<L: Label + Copy>(label: L, times: usize) -> L {
     (0..times).fold(label, |last, _| last.raise(1))
 }
 
-// The first label is less than the second, and the second greater.
-fn is_less<L: Label + Copy>(a: L, b: L) -> bool {
-    a.compare(&b) == Comparison::Less && b.compare(&a) == Comparison::Greater
-}
+// The first label is less than the second, and so the second greater.
+const LESS: (Comparison, Comparison) = (Comparison::Less, Comparison::Greater);
 
 // Neither label is less than the other.
-fn is_neither<L: Label + Copy>(a: L, b: L) -> bool {
-    a.compare(&b) == Comparison::Neither && b.compare(&a) == Comparison::Neither
+const NEITHER: (Comparison, Comparison) = (Comparison::Neither, Comparison::Neither);
+
+// The first label compares with the second, and the second with the first, as expected.
+fn compares<L: Label + Copy>(a: L, b: L, (there, back): (Comparison, Comparison)) -> bool {
+    a.compare(&b) == there && b.compare(&a) == back
 }
 
-// The two are the same label, where neither is raised by 255: once raised by it, the one exceeds the other.
-pub(crate) fn is_same<L: Label + Copy>(a: &L, b: &L) -> bool {
+// The two are the same label, where neither is raised by 255: once raised by it, the one exceeds the other. No `==`: a kind of label
+// need not have one.
+fn is_same<L: Label + Copy>(a: &L, b: &L) -> bool {
     let more = a.raise(255);
     a.compare(b) == Comparison::Neither && more.compare(b) == Comparison::Greater
 }
@@ -42,19 +44,16 @@ fn last_label<L: Label + Copy>(raisings: &[(usize, u8)], station: usize) -> L {
 }
 
 // The row is as a call must leave it: the first n labels are the last ones by the table, and the others the old one.
-fn is_row<L: Label + Copy>(row: &[L], n: usize, raisings: &[(usize, u8)], old: L) -> bool {
+pub(crate) fn is_row<L: Label + Copy>(
+    row: &[L],
+    n: usize,
+    raisings: &[(usize, u8)],
+    old: L,
+) -> bool {
     row.iter().enumerate().all(|(k, label)| {
         let expected = if k < n { last_label(raisings, k) } else { old };
         is_same(label, &expected)
     })
-}
-
-// Puts the label everywhere in the row.
-// No `fill`: it asks that a clone cannot fail, which `Copy` does not say of every kind.
-fn cover<L: Copy>(row: &mut [L], label: L) {
-    for place in row.iter_mut() {
-        *place = label;
-    }
 }
 
 // Search and judge of n stations with the ties leave such a row, over labels that were raised before.
@@ -69,9 +68,9 @@ fn leaves<L: Label + Copy>(
     let made = make_tied(&mut matrix, n, ties).is_ok();
     let old = raised(L::new_blank(), &[200, 100, 2]);
     let mut strip = patterned::<300>();
-    cover(row, old);
+    row.fill_with(|| old);
     let found = search(&matrix, row, &mut strip).is_ok() && is_row(row, n, raisings, old);
-    cover(row, old);
+    row.fill_with(|| old);
     let told = judge(&matrix, row, &mut strip, &mut [0; 256]).is_ok();
     made & found & told & is_row(row, n, raisings, old)
 }
@@ -82,11 +81,11 @@ fn counts_compare(rt: HostRuntime) {
     let blank = CountLabel::BLANK;
     let one = raised(blank, &[3]);
     let most = raised_times(blank, 65535);
-    assert!(rt; is_neither(blank, CountLabel::new_blank()));
-    assert!(rt; is_less(one, raised(blank, &[0, 1])));
-    assert!(rt; is_neither(one, raised(blank, &[255])));
-    assert!(rt; is_less(raised_times(blank, 65534), most));
-    assert!(rt; is_neither(most.raise(0), most));
+    assert!(rt; compares(blank, CountLabel::new_blank(), NEITHER));
+    assert!(rt; compares(one, raised(blank, &[0, 1]), LESS));
+    assert!(rt; compares(one, raised(blank, &[255]), NEITHER));
+    assert!(rt; compares(raised_times(blank, 65534), most, LESS));
+    assert!(rt; compares(most.raise(0), most, NEITHER));
 }
 
 // Lists compare by the highest position in which they differ.
@@ -95,10 +94,10 @@ fn lists_compare(rt: HostRuntime) {
     let blank = ListLabel::BLANK;
     let high = raised(blank, &[64]);
     let low = raised(blank, &[63, 62, 0]);
-    assert!(rt; is_neither(blank, ListLabel::new_blank()));
-    assert!(rt; is_less(low, high));
-    assert!(rt; is_less(high, raised(blank, &[64, 0])));
-    assert!(rt; is_neither(raised(blank, &[0, 62, 63, 0]), low));
+    assert!(rt; compares(blank, ListLabel::new_blank(), NEITHER));
+    assert!(rt; compares(low, high, LESS));
+    assert!(rt; compares(high, raised(blank, &[64, 0]), LESS));
+    assert!(rt; compares(raised(blank, &[0, 62, 63, 0]), low, NEITHER));
 }
 
 // Inclusions compare only where one holds all that the other holds.
@@ -108,11 +107,11 @@ fn inclusions_compare(rt: HostRuntime) {
     let high = raised(blank, &[255]);
     let low = raised(blank, &[63, 64]);
     let both = raised(blank, &[255, 64, 63]);
-    assert!(rt; is_neither(blank, InclusionLabel::new_blank()));
-    assert!(rt; is_less(blank, high));
-    assert!(rt; is_neither(low, high));
-    assert!(rt; is_less(low, both));
-    assert!(rt; is_neither(both, raised(low, &[1])));
+    assert!(rt; compares(blank, InclusionLabel::new_blank(), NEITHER));
+    assert!(rt; compares(blank, high, LESS));
+    assert!(rt; compares(low, high, NEITHER));
+    assert!(rt; compares(low, both, LESS));
+    assert!(rt; compares(both, raised(low, &[1]), NEITHER));
 }
 
 // The last labels of one station and of a path of three, by each kind.

@@ -5,6 +5,7 @@ use store::{Matrix, Refusal, Store};
 pub(crate) const SQUARE: [(usize, usize); 4] = [(0, 1), (1, 2), (2, 3), (3, 0)];
 
 // Ties the pairs of the table, up to one that is refused.
+// One line each, here and below: a function that is given the call would be no plainer.
 pub(crate) fn tie_pairs(matrix: &mut Matrix<'_>, pairs: &[(usize, usize)]) -> Result<(), Refusal> {
     pairs.iter().try_for_each(|(u, v)| matrix.tie(*u, *v))
 }
@@ -36,7 +37,7 @@ pub(crate) fn tie_star(
 }
 
 // Makes n stations with the ties of the table.
-// The two stay apart: as a struct, named at each of fifty calls, they would say no more.
+// The two stay apart: as a struct, named at each of about fifty calls, they would say no more.
 pub(crate) fn make_tied(
     matrix: &mut Matrix<'_>,
     n: usize,

@@ -3,7 +3,7 @@ use std::array;
 use store::{Matrix, Store};
 
 // Every byte is the value.
-// The crate of the library's tests has the same: a crate knows only those above it, and none above both is for tests.
+// The other crate of tests has the same one line: a crate of its own for it would be no plainer.
 pub(crate) fn all(bytes: &[u8], value: u8) -> bool {
     bytes.iter().all(|byte| *byte == value)
 }
@@ -44,9 +44,10 @@ fn stands(matrix: &Matrix<'_>, a: u8, b: u8) -> bool {
 
 // Each station, as many as there are entries, is one of them, and so comes once.
 pub(crate) fn is_order(order: &[u8]) -> bool {
-    (0..=255u8)
-        .take(order.len())
-        .all(|station| order.contains(&station))
+    order.len() <= 256
+        && (0..=255u8)
+            .take(order.len())
+            .all(|station| order.contains(&station))
 }
 
 // The later neighbours of each station are neighbours of one another.
@@ -90,8 +91,8 @@ fn has_its_place(matrix: &Matrix<'_>, ring: &[u8], place: usize, a: u8) -> bool 
     })
 }
 
-// Two places are next to each other in a round of the length.
+// Two places are next to each other in a round of the length: one apart, or the first and the last.
 fn are_next(place: usize, other: usize, round: usize) -> bool {
     let apart = place.abs_diff(other);
-    apart == 1 || round.abs_diff(apart) == 1
+    apart == 1 || apart.checked_add(1) == Some(round)
 }

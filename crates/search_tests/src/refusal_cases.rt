@@ -1,19 +1,14 @@
 // Strips, rows and marks that are too short are refused by 11, and nothing changes then.
 ghost use Rattle.std.specs.Prelude.{◌≤◌};
 
-use crate::label_cases::{is_same, raised};
+use crate::label_cases::{is_row, raised};
 use crate::networks::{SQUARE, make_tied};
 use crate::plain::{is_patterned, patterned};
 use search::{Label, ListLabel, judge, search};
 use store::{Matrix, Refusal};
 
-// Every label of the row is the same as the label.
-fn is_full(row: &[ListLabel], label: ListLabel) -> bool {
-    row.iter().all(|other| is_same(other, &label))
-}
-
 // The search with strip and row of these lengths is refused, and both stay.
-// Numbers up to 300 and no arrays from the callers: one array for each length, at each call, is no plainer.
+// Numbers up to 300: tried with const parameters, and that arrays of any length fit in memory did not close.
 fn search_stops(matrix: &Matrix<'_>, strip_length: usize, row_length: usize) -> bool
     requires { (strip_length ≤ 300) × (row_length ≤ 300) }
 {
@@ -21,10 +16,11 @@ fn search_stops(matrix: &Matrix<'_>, strip_length: usize, row_length: usize) -> 
     let mut row = [label; 300];
     let mut strip = patterned::<300>();
     let answer = search(matrix, &mut row[0..row_length], &mut strip[0..strip_length]);
-    answer == Err(Refusal::StripTooShort) && is_patterned(&strip, 0) && is_full(&row, label)
+    answer == Err(Refusal::StripTooShort) && is_patterned(&strip, 0) && is_row(&row, 0, &[], label)
 }
 
 // The judge with strip, row and marks of these lengths is refused, and all stay.
+// Numbers up to 300: tried with const parameters, and that arrays of any length fit in memory did not close.
 fn judge_stops(
     matrix: &Matrix<'_>,
     strip_length: usize,
@@ -43,7 +39,7 @@ fn judge_stops(
         &mut strip[0..strip_length],
         &mut marks[0..marks_length],
     );
-    let kept = is_patterned(&strip, 0) & is_patterned(&marks, 0) & is_full(&row, label);
+    let kept = is_patterned(&strip, 0) & is_patterned(&marks, 0) & is_row(&row, 0, &[], label);
     (answer == Err(Refusal::StripTooShort)) & kept
 }
 

@@ -5,20 +5,24 @@ use crate::plain::all;
 use search::{Label, ListLabel, Verdict};
 use store::{Matrix, Store};
 
-// Each pair of the first eight stations, of which some may be outside, has its mark.
-fn has_marks(matrix: &Matrix<'_>, ties: &[(usize, usize)], fill: &[(usize, usize)]) -> bool {
-    (0..8).all(|u| (0..8).all(|v| has_mark(matrix, ties, fill, (u, v))))
+// The pairs of a network: its ties and its fill.
+#[derive(Clone, Copy)]
+struct Pairs<'a> {
+    ties: &'a [(usize, usize)],
+    fill: &'a [(usize, usize)],
 }
 
-// The pair has mark 1 where it is one of the ties, and mark 2 where it is one of the fill.
-fn has_mark(
-    matrix: &Matrix<'_>,
-    ties: &[(usize, usize)],
-    fill: &[(usize, usize)],
-    pair: (usize, usize),
-) -> bool {
-    let mark = matrix.mark(pair.0, pair.1);
-    (mark == 1) == is_listed(ties, pair) && (mark == 2) == is_listed(fill, pair)
+impl Pairs<'_> {
+    // The pair has mark 1 where it is one of the ties, and mark 2 where it is one of the fill.
+    fn mark(&self, matrix: &Matrix<'_>, pair: (usize, usize)) -> bool {
+        let mark = matrix.mark(pair.0, pair.1);
+        (mark == 1) == is_listed(self.ties, pair) && (mark == 2) == is_listed(self.fill, pair)
+    }
+
+    // Each pair of the first eight stations, of which some may be outside, has its mark.
+    fn mark_all(&self, matrix: &Matrix<'_>) -> bool {
+        (0..8).all(|u| (0..8).all(|v| self.mark(matrix, (u, v))))
+    }
 }
 
 // The table has the pair, one way round or the other.
@@ -36,11 +40,12 @@ fn stays_with(
     let mut area = [0; 8192];
     let mut matrix = Matrix::over(&mut area);
     let made = make_tied(&mut matrix, n, ties).is_ok() && lay_pairs(&mut matrix, fill).is_ok();
+    let pairs = Pairs { ties, fill };
     let room = matrix.room();
-    let before = has_marks(&matrix, ties, fill);
+    let before = pairs.mark_all(&matrix);
     let said = all_say(&matrix, expected);
     let same = (matrix.size() == n) & (matrix.room() == room);
-    made & before & said & same & has_marks(&matrix, ties, fill)
+    made & before & said & same & pairs.mark_all(&matrix)
 }
 
 // A ring of ties and fill is a ring, and one of fill alone.
@@ -70,7 +75,7 @@ fn fill_counts_in_the_order(rt: HostRuntime) {
     let laid = lay_pairs(&mut matrix, &[(1, 3)]).is_ok();
     let labels = &mut [ListLabel::BLANK; 256];
     assert!(rt; made & laid);
-    assert!(rt; orders(&matrix, labels, true, &[2, 3, 1, 0]));
+    assert!(rt; orders(&matrix, labels, Verdict::Chordal, &[2, 3, 1, 0]));
 }
 
 // No byte of the area changes.
@@ -80,7 +85,12 @@ fn area_stays(rt: HostRuntime) {
     let mut matrix = Matrix::over(&mut area);
     let made = matrix.set_size(9).is_ok();
     let labels = &mut [ListLabel::BLANK; 256];
-    let ordered = orders(&matrix, labels, true, &[6, 4, 3, 1, 8, 7, 5, 2, 0]);
+    let ordered = orders(
+        &matrix,
+        labels,
+        Verdict::Chordal,
+        &[6, 4, 3, 1, 8, 7, 5, 2, 0],
+    );
     let judged = all_say(&matrix, Verdict::Chordal);
     assert!(rt; made & ordered & judged);
     assert!(rt; all(&area, 165));

@@ -1,13 +1,10 @@
 -- The members of a set as a list, rising.
-use Rattle.std.proofs.Common.{◌≡◌, ℕ, zero, suc, ◌+◌, ◌<◌, ◌≤◌, Bool, true, false, not, cond, ◌&&◌, ◌||◌, eqb, List, [], ◌∷◌, length, get_or, Option, Some, None, ◌↔◌, sym, refl, ap, ◌∙◌, subst, ap₂, inl, inr, arith}
-use Rattle.std.specs.List.{filter, range_with_len, list_any, list_all, find, All, Contains}
-use Rattle.std.proofs.lemmas.Bool.{both_ways, cases_lt, cases_eq, cases_order, cases_Bool, eq-eqb, ne_eqb, eqb-true, and_right, cond-true, cond-false}
-use Rattle.std.proofs.lemmas.List.Elements.{All-weaker, All-contains, filter_passes}
-use Rattle.std.proofs.lemmas.List.Sums.{AllPass-from_list_all, list_all-from_AllPass}
-use Rattle.std.proofs.lemmas.List.Folds.{Any-from_list_any, list_any-from_Any}
+use Rattle.std.proofs.Common.{◌≡◌, ℕ, zero, suc, ◌+◌, ◌<◌, ◌≤◌, Bool, true, false, not, cond, ◌&&◌, ◌||◌, eqb, List, [], ◌∷◌, length, get_or, sym, refl, ap, ◌∙◌, ap₂, inl, inr, arith}
+use Rattle.std.specs.List.{filter, range_with_len, list_any, All, Contains}
+use Rattle.std.proofs.lemmas.Bool.{cases_lt, cases_eq, cases_order, cases_Bool, eq-eqb, ne_eqb, eqb-true, and_right}
+use Rattle.std.proofs.lemmas.List.Elements.{All-contains, filter_passes}
 use Rattle.std.proofs.lemmas.Map.Views.{Contains-from_any}
-use Rattle.std.specs.Option.{MatchOption, option_map}
-use Rattle.sets.specs.Sets.{has, passing, members, Nobody, Lowest}
+use Rattle.sets.specs.Sets.{has, rising, members, Nobody, Lowest}
 use Rattle.sets.specs.declared.station_set.StationSet.{StationSet}
 use Rattle.sets.proofs.Members.{has_below, has_past}
 
@@ -125,105 +122,46 @@ from_left p q n v e x l =
       ]
     ])
 
--- none of the numbers from a to below b that pass has the property
-abbrev Misses : (p test : ℕ → Bool) → ℕ → ℕ → Type 0
-Misses p test a b = (x : ℕ) → a ≤ x → x < b → p x ≡ true → test x ≡ false
-
-abbrev Finds : (p test : ℕ → Bool) → ℕ → ℕ → Option ℕ → Type 0
-Finds p test a n r = MatchOption r (Misses p test a (a + n)) (λ v. (p v ≡ true) × (test v ≡ true) × Misses p test a v)
-
-finds_later : (p test : ℕ → Bool) (a n : ℕ) (r : Option ℕ) → (p a ≡ true → test a ≡ false) → Finds p test (a + 1) n r → Finds p test a (suc n) r
-finds_later p test a n None f m = λ x l h e. elim (cases_eq x a) [ inl i ↦ ap test i ∙ f (sym (ap p i) ∙ e) | inr d ↦ m x (omega arith) (omega arith) e ]
-finds_later p test a n (Some v) f m =
-    (m.0, m.1, λ x l h e. elim (cases_eq x a) [ inl i ↦ ap test i ∙ f (sym (ap p i) ∙ e) | inr d ↦ m.2 x (omega arith) h e ])
-
-from_find : (p test : ℕ → Bool) (a n : ℕ) → Finds p test a n (find test (from p a n))
-from_find p test a zero = λ x l h e. absurd (omega arith)
-from_find p test a (suc n) =
-    let later : (p a ≡ true → test a ≡ false) → Finds p test a (suc n) (find test (from p (a + 1) n)) = λ f. finds_later p test a n _ f (from_find p test (a + 1) n) in
-    elim (cases_Bool (p a)) [
-      | inr t ↦ subst (λ xs. Finds p test a (suc n) (find test xs)) (sym (skip p a n t)) (later (λ u. absurd (both_ways (p a) t u)))
-      | inl t ↦ subst (λ xs. Finds p test a (suc n) (find test xs)) (sym (pass p a n t)) (elim (cases_Bool (test a)) [
-        | inl u ↦ subst (Finds p test a (suc n)) (sym (cond-true (test a) (Some a) (find test (from p (a + 1) n)) u)) (t, u, λ x l h e. absurd (omega arith))
-        | inr u ↦ subst (Finds p test a (suc n)) (sym (cond-false (test a) (Some a) (find test (from p (a + 1) n)) u)) (later (λ _. u))
-      ])
-    ]
-
 -- a set without members
 pub members_none : (s : StationSet) → Nobody s → members s ≡ []
-unfolding passing
+unfolding rising
 members_none s f = from_none (has s) 0 256 (λ x _ _. f x)
 
 -- the lowest member, and the members that are left without it
 pub members_first :
     (s t : StationSet) (v : ℕ) → Lowest s v → ((j : ℕ) → has t j ≡ (not (eqb j v) && has s j)) → members s ≡ v ∷ members t
-unfolding passing
+unfolding rising
 members_first s t v l f = from_first (has s) (has t) 0 256 v (omega arith) l.below l.member l.before f
 
 -- what the list tells of the set
 pub nobody_from : (s : StationSet) → members s ≡ [] → Nobody s
-unfolding passing
+unfolding rising
 nobody_from s e i = elim (cases_lt i 256) [
   | inl l ↦ sym (listed (has s) 0 256 i (omega arith) l) ∙ ap (list_any (eqb i)) e
   | inr p ↦ has_past s i p
 ]
 
 pub lowest_from : (s : StationSet) (v : ℕ) (vs : List ℕ) → members s ≡ v ∷ vs → Lowest s v
-unfolding passing
+unfolding rising
 lowest_from s v vs e =
     let r = from_starts (has s) 0 256 v vs e in
     record { below = has_below s v r.passes; member = r.passes; before = λ i l. r.before i (omega arith) l }
 
 pub left_from : (s t : StationSet) (v : ℕ) → members s ≡ v ∷ members t → (j : ℕ) → has t j ≡ (not (eqb j v) && has s j)
-unfolding passing
+unfolding rising
 left_from s t v e j = elim (cases_lt j 256) [
   | inl l ↦ from_left (has s) (has t) 256 v e j l
   | inr p ↦ has_past t j p ∙ sym (and_right (not (eqb j v)) (has s j) (has_past s j p))
 ]
 
 -- what passes, passes
-passes : (p : ℕ → Bool) (n : ℕ) → All (λ x. p x ≡ true) (passing p n)
-unfolding passing
+passes : (p : ℕ → Bool) (n : ℕ) → All (λ x. p x ≡ true) (rising p n)
+unfolding rising
 passes p n = filter_passes p (range_with_len 0 n)
-
--- what holds of each member, and what holds of each element of the list
-pub members_all : (s : StationSet) (P : ℕ → Type 0) → ((i : ℕ) → has s i ≡ true → P i) → All P (members s)
-members_all s P f = All-weaker (λ x. has s x ≡ true) P f (members s) (passes (has s) 256)
 
 pub has_from : (s : StationSet) (i : ℕ) → Contains (members s) i → has s i ≡ true
 has_from s i c = All-contains (λ x. has s x ≡ true) (members s) i (passes (has s) 256) c
 
 pub contains_from : (s : StationSet) (i : ℕ) → has s i ≡ true → Contains (members s) i
-unfolding passing
+unfolding rising
 contains_from s i e = Contains-from_any eqb-true i (members s) (listed (has s) 0 256 i (omega arith) (has_below s i e) ∙ e)
-
-pub all_from : (s : StationSet) (P : ℕ → Type 0) → All P (members s) → (i : ℕ) → has s i ≡ true → P i
-all_from s P a i e = All-contains P (members s) i a (contains_from s i e)
-
--- what a chain over the members answers: all have the property, or some has it
-pub all_iff : (s : StationSet) (test : ℕ → Bool) (r : Bool) → r ≡ list_all test (members s) → (r ≡ true) ↔ ((i : ℕ) → has s i ≡ true → test i ≡ true)
-all_iff s test r e = (
-  λ t. all_from s (λ i. test i ≡ true) (AllPass-from_list_all test (members s) (sym e ∙ t)),
-  λ f. e ∙ list_all-from_AllPass test (members s) (members_all s (λ i. test i ≡ true) f),
-)
-
-pub any_iff : (s : StationSet) (test : ℕ → Bool) (r : Bool) → r ≡ list_any test (members s) → (r ≡ true) ↔ ((i : ℕ) × (has s i ≡ true) × (test i ≡ true))
-any_iff s test r e = (
-  λ t. let a = Any-from_list_any test (members s) (sym e ∙ t) in (a.1, has_from s a.1 (a.0, a.2, a.3), a.4),
-  λ m. let c = contains_from s m.0 m.1 in e ∙ list_any-from_Any test (members s) (c.0, m.0, c.1, c.2, m.2),
-)
-
-found_in : (s : StationSet) (test : ℕ → Bool) → Finds (has s) test 0 256 (find test (members s))
-unfolding passing
-found_in s test = from_find (has s) test 0 256
-
--- the lowest member with the property, or none has it
-pub found :
-    (s : StationSet) (test : ℕ → Bool) (r : Option ℕ) → option_map (λ x. x) r ≡ find test (members s) →
-    MatchOption r ((i : ℕ) → has s i ≡ true → test i ≡ false)
-    (λ v. (has s v ≡ true) × (test v ≡ true) × ((i : ℕ) → i < v → has s i ≡ true → test i ≡ false))
-found s test None e =
-    let m : Finds (has s) test 0 256 None = subst (Finds (has s) test 0 256) (sym e) (found_in s test) in λ i h. m i (omega arith) (has_below s i h) h
-found s test (Some v) e =
-    let m : Finds (has s) test 0 256 (Some v) = subst (Finds (has s) test 0 256) (sym e) (found_in s test) in
-    (m.0, m.1, λ i l h. m.2 i (omega arith) l h)

@@ -21,12 +21,12 @@ unfoldable pub size : (ℕ → Bool) → ℕ → ℕ
 size test n = counted test n
 
 -- the numbers below n that pass, rising
-unfoldable pub passing : (ℕ → Bool) → ℕ → List ℕ
-passing test n = filter test (range_with_len 0 n)
+unfoldable pub rising : (ℕ → Bool) → ℕ → List ℕ
+rising test n = filter test (range_with_len 0 n)
 
 -- the members, rising
 abbrev pub members : StationSet → List ℕ
-members s = passing (has s) 256
+members s = rising (has s) 256
 
 -- no station is a member
 abbrev pub Nobody : StationSet → Type 0

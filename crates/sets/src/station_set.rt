@@ -128,21 +128,21 @@ fn filled(n: usize) -> u64
     if n < 64 { (1 << n) - 1 } else { u64::MAX }
 }
 
-// The bits of a that b lacks.
+// The bits of a that b lacks. A function, since its clause names bits, which a closure's inferred one does not.
 fn without(a: u64, b: u64) -> u64
     ensures { (k : ℕ) → k < 64 → bit result k ≡ (bit a k && not (bit b k)) }
 {
     a & !b
 }
 
-// How many bits of a word are 1.
+// How many bits of a word are 1, as a `usize`: its clause counts members as `size` does.
 fn ones(word: u64) -> usize
     ensures { result ≡ size (bit word) 64 }
 {
     word.count_ones() as usize
 }
 
-// How two words compare.
+// How two words compare. A function, since its clause also tells that both are words.
 fn compare(a: u64, b: u64) -> Ordering
     ensures order { result ≡ nat_cmp a b }
     ensures fits { (a < 2 ^ 64) × (b < 2 ^ 64) }

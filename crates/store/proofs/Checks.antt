@@ -4,7 +4,8 @@ use Rattle.std.proofs.lemmas.Bool.Decides.{nat_tests}
 use Rattle.store.specs.declared.refusal.Refusal.{Refusal}
 use Rattle.store.specs.declared.refusal.Refusal.TheVariants.{StationOutside}
 use Rattle.store.specs.Refusals.{number, pair_refusal}
-use Rattle.store.specs.Matrices.{size_refusal}
+use Rattle.store.specs.Matrices.{size_over, size_refusal}
+use Rattle.store.specs.MatrixLaws.{size_two}
 
 -- the size is 1 to 256, and the area has the bytes
 pub record SizeFits (n len : ℕ) : Type 0 where
@@ -23,6 +24,10 @@ pub record TwoStations (size u v : ℕ) : Type 0 where
 
 pub two_stations : (size u v : ℕ) → pair_refusal size u v ≡ 0 → TwoStations size u v
 two_stations size u v e = record { one = grind (arith, nat_tests); other = grind (arith, nat_tests); differ = λ d. grind (arith, nat_tests) }
+
+-- a pair takes a whole square
+pub pair_long : (len n u v : ℕ) → pair_refusal (size_over len n) u v ≡ 0 → 8192 ≤ len
+pair_long len n u v e = let two = two_stations (size_over len n) u v e in size_two len n (let d = two.differ in omega (arith, two.one, two.other))
 
 pub pair_passes : (size u v : ℕ) → u < size → v < size → (u ≡ v → ⊥) → pair_refusal size u v ≡ 0
 pair_passes size u v hu hv d = grind (arith, nat_tests)

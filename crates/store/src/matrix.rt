@@ -1,5 +1,5 @@
 // The matrix: a network in the first 8,192 bytes of a lent area.
-ghost use Rattle.std.specs.Prelude.{◌≡◌, ◌<◌, ◌≤◌, min, max, length, IfOk};
+ghost use Rattle.std.specs.Prelude.{◌≡◌, min, max, IfOk};
 ghost use Rattle.store.specs.Nets.{count_in_row, count_pairs};
 ghost use Rattle.store.specs.Refusals.{Checks, pair_refusal, Lays};
 ghost use Rattle.store.specs.Matrices.{net_of, bytes_of, matrix_net, empty_net, Makes, SetsSize, Ties, LaysBits};
@@ -12,6 +12,7 @@ use crate::store::Store;
 
 // Stations u and v have bit v mod 8 of byte u * 32 + v div 8: for u below v it says that the
 // pair stands, for u above v that it is a tie. Any bytes mean a network of 1 to 256 stations.
+// Every changing call says `same_area`: no type can say that the reference is still the one that was lent.
 #[derive(Drop)]
 pub struct Matrix<'a> {
     area: &'a mut [u8],
@@ -55,6 +56,7 @@ impl<'a> Matrix<'a> {
     }
 
     // The pair is a tie, whether it stood or not; refused by 1 and 2.
+    #[tactic(auto, using(crate::proofs::Checks::pair_long))]
     pub fn tie(&mut self, u: usize, v: usize) -> Result<(), Refusal>
         ensures ties { Ties u v self.old self.new result }
         ensures same_area { self.new.area.ghost_name ≡ self.old.area.ghost_name }
@@ -73,7 +75,7 @@ impl<'a> Matrix<'a> {
         (0..self.stations()).map(|b| self.count_row(mark, b)).sum()
     }
 
-    // How many stations below b have the mark with b.
+    // How many stations below b have the mark with b. A number, as `count` is asked for it.
     fn count_row(&self, mark: u8, b: usize) -> usize
         ensures { result ≡ count_in_row (net_of self.now).mark mark b b }
     {
@@ -81,12 +83,11 @@ impl<'a> Matrix<'a> {
     }
 
     // The pair of two stations of the matrix, refused by 1 and 2.
-    #[tactic(auto, using(crate::specs::MatrixLaws::size_most, crate::specs::MatrixLaws::size_two))]
+    #[tactic(auto, using(crate::specs::MatrixLaws::size_most))]
     fn pair(&self, u: usize, v: usize) -> Result<Pair, Refusal>
         ensures checks { Checks (pair_refusal (net_of self.now).size u v) result }
         ensures lower { IfOk result (λ pair. pair.lower ≡ min u v) }
         ensures upper { IfOk result (λ pair. pair.upper ≡ max u v) }
-        ensures long { IfOk result (λ _. 8192 ≤ length self.now.area.now) }
     {
         let n = self.stations();
         if u >= n || v >= n {
@@ -112,7 +113,7 @@ impl<'a> Matrix<'a> {
         self.n.clamp(1, 256)
     }
 
-    // The mark of two stations, from their two bits.
+    // The mark of two stations, from their two bits. A number, as `mark` tells it.
     fn pair_mark(&self, u: usize, v: usize) -> u8
         ensures { result ≡ (net_of self.now).mark u v }
     {
@@ -143,6 +144,7 @@ impl<'a> Store for Matrix<'a> {
         self.pair_mark(u, v)
     }
 
+    #[tactic(auto, using(crate::proofs::Checks::pair_long))]
     fn lay(&mut self, u: usize, v: usize) -> Result<(), Refusal>
         ensures lays { Lays (net_of self.old) u v (net_of self.new) result }
         ensures bits { LaysBits u v self.old self.new result }

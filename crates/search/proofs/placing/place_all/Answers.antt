@@ -31,7 +31,8 @@ loop-p-preserved g c =
 pub returns : goal.returns
 returns g c =
     let n = c.args.network.now.size in
-    let e : take n c.loop-p.entries ≡ c.first.result = sym (c.first.ensures ∙ ap (λ k. take k c.loop-p.entries) c.size-n.ensures) in
+    let e : take n c.loop-p.entries ≡ c.truncate.new.self.items =
+    sym (c.truncate.ensures.items ∙ ap (λ k. take k c.from-order.result.items) c.size-n.ensures ∙ ap (take n) c.from-order.ensures.0) in
     subst (λ o. SearchMade g.L.Label.BLANK g.L.Label.raised g.L.Label.less n (adj c.args.network.now.rows) o c.args.labels.now c.loop-p.labels) e
     (found_all c.loop-p.p c.loop-p.entries (has c.loop-p.unplaced) c.args.labels.now c.reset.new.labels
     c.loop-p.labels c.loop-p.invariant (omega arith) (omega arith) (omega arith) (subst (λ n. Blanked g.L.Label.BLANK n c.args.labels.now c.reset.new.labels) c.size-n.ensures c.reset.ensures))

@@ -25,7 +25,7 @@ loop-e-preserved c =
     let m = c.loop-e.e in
     let d = c.args.d in
     let i = c.loop-e.invariant in
-    let ring = c.loop-e.ring in
+    let ring = c.loop-e.ring.items in
     let y = c.in-Some.y in
     let md : m ≤ d = i.3 in
     let both = and_parts (has c.neighbours.result y) (has c.marked-layer.result y) (sym (c.intersection.ensures y) ∙ c.in-Some.ensures.member) in
@@ -34,8 +34,8 @@ loop-e-preserved c =
     let long = i.0.long in
     let t = traced_more (adj c.args.network.now.rows) (level c.args.marks.now) c.args.v c.args.a d m (m - 1) ring c.loop-e.x y i.0 (omega arith) md i.1
     (sym (c.neighbours.ensures y) ∙ both.0) l in (
-      subst (λ xs. Traced (adj c.args.network.now.rows) (level c.args.marks.now) c.args.v c.args.a d (m - 1) xs) (sym c.push-in-loop-e.ensures) t,
-      ap (λ xs. at xs (suc (d - (m - 1)))) c.push-in-loop-e.ensures ∙ get_or_push ring y 0 (suc (d - (m - 1))) (omega arith),
+      subst (λ xs. Traced (adj c.args.network.now.rows) (level c.args.marks.now) c.args.v c.args.a d (m - 1) xs) (sym c.push-in-loop-e.ensures.items) t,
+      ap (λ xs. at xs (suc (d - (m - 1)))) c.push-in-loop-e.ensures.items ∙ get_or_push ring y 0 (suc (d - (m - 1))) (omega arith),
       c.in-Some.ensures.below,
       omega arith,
       l,

@@ -1,7 +1,7 @@
 use Rattle.std.proofs.Common.{◌≡◌, min, max, ap, ◌∙◌, arith}
 use Rattle.store.specs.Squares.{raised, lowered}
 use Rattle.store.specs.Matrices.{matrix_net, net_of}
-use Rattle.store.proofs.Checks.{two_stations}
+use Rattle.store.proofs.Checks.{two_stations, pair_long}
 use Rattle.store.proofs.Marks.{laid_net, free_allowed}
 use Rattle.store.proofs.matrix.MatrixStore.lay.Goals as goal
 
@@ -16,4 +16,4 @@ returns-clause-lays c =
     let ne = two.differ in
     let free : (net_of c.args.self.now).mark u v ≡ 0 = omega arith in
     let bytes : c.set-2.new.area ≡ lowered (raised old (min u v) (max u v)) (max u v) (min u v) = cc in
-    (free_allowed old n u v two.one two.other ne free, ap (λ x. matrix_net x n) bytes ∙ laid_net old n u v pair.long two.one two.other ne free)
+    (free_allowed old n u v two.one two.other ne free, ap (λ x. matrix_net x n) bytes ∙ laid_net old n u v (pair_long _ _ _ _ pair.checks) two.one two.other ne free)
