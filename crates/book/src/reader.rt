@@ -27,6 +27,7 @@ struct Reader<'b> {
     ghost small: { length book.now ≤ 65536 },
 }
 
+// Each changing method says which fields stay (`kept`, `book`): of what is behind `&mut self` callers know what a clause says.
 impl<'b> Reader<'b> {
     // At the start of the book.
     fn new(book: &'b [u8]) -> Reader<'b>

@@ -9,7 +9,7 @@ use book::{BookFault, ReadError};
 use itoa::Buffer;
 use store::Refusal;
 
-// The text that is written so far: the first `len` bytes of the area.
+// The text that is written so far: the first `len` bytes of the area. The area is lent, so no list of fixed capacity holds it.
 #[derive(Drop)]
 pub(crate) struct Text<'a> {
     area: &'a mut [u8],
@@ -54,7 +54,8 @@ impl<'a> Text<'a> {
     }
 }
 
-// Writes "stations N ties M" and the end of the line at the start of the area; how many bytes that is.
+// Writes "stations N ties M" and the end of the line at the start of the area; how many bytes that is. Part by part, for the reason
+// that stands at `push_labelled`.
 #[tactic(auto, using(crate::proofs::Texts::few_digits))]
 pub(crate) fn write_accepted(out: &mut [u8], stations: usize, ties: usize) -> usize
     requires { 64 ≤ length out.old }

@@ -10,7 +10,7 @@ use sets::rows::{note_gaps, part_of, row, touching, widen};
 use sets::{Rows, StationSet};
 use store::Store;
 
-// The neighbours of each station, and how many stations there are.
+// The neighbours of each station, and how many stations there are: there are rows for all 256, so the number stands beside them.
 #[derive(Drop)]
 pub(crate) struct Network {
     rows: Rows,

@@ -67,6 +67,7 @@ fn trace(network: &Network, marks: &[u8; 256], v: u8, a: u8, d: usize) -> ArrayV
     ring.push(v);
     ring.push(a);
     let mut x = a;
+    // e is no index: it is the layer, by whose mark the next station is found.
     for e in (0..d).rev() {
         let layer = marked(marks, e as u8 + 1);
         let Some(y) = network.neighbours(x).intersection(layer).first() else {

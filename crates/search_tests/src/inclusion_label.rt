@@ -32,6 +32,7 @@ impl Label for InclusionLabel {
 
     ghost laws = { inclusion_laws };
 
+    // As the list label raises, whose set is private to the library.
     fn raise(self, position: u8) -> InclusionLabel {
         let mut positions = self.positions;
         positions.insert(position);

@@ -140,6 +140,7 @@ impl<'a> Store for Matrix<'a> {
         self.count(0)
     }
 
+    // A number, as the trait says.
     fn mark(&self, u: usize, v: usize) -> u8 {
         self.pair_mark(u, v)
     }

@@ -35,7 +35,7 @@ impl Bit {
             .is_some_and(|byte| byte & self.mask() != 0)
     }
 
-    // Makes the bit 1 or 0.
+    // Makes the bit 1 or 0: the flag is its value, so that one function writes both.
     #[tactic(auto, unfolding(crate::specs::Squares::raised, crate::specs::Squares::lowered))]
     pub(crate) fn set(self, area: &mut [u8], one: bool)
         requires { 8192 ≤ length area.old }
