@@ -1,6 +1,8 @@
 // The areas that a report is given: how long they must be, and what it leaves in them.
 use crate::expect::{all, only, writes};
+use book::BookFault;
 use report::report;
+use std::test::Fail;
 use store::Refusal;
 
 // The report into these areas, of bytes 7 and of bytes 9, is refused by 9, and both keep their bytes.
@@ -48,4 +50,14 @@ fn leaves_the_ties_of_a_square(rt: HostRuntime) {
             &[(0, 10), (32, 5), (64, 10), (96, 5)],
         )
     );
+}
+
+// A refusal and a book's fault print themselves.
+#[test]
+fn prints_refusals_and_faults(rt: HostRuntime) -> Result<(), Fail> {
+    let refusal = Refusal::AreaTooShort;
+    let fault = BookFault::NameUnknown { at: 18, line: 4 };
+    let text = format!(in rt.alloc(); "{refusal}, {fault}")?;
+    assert_eq!(rt; text.as_str(), "refused 9, refused 27 line 4 byte 18");
+    Ok(())
 }
