@@ -14,6 +14,11 @@ pub split_cons : (c : ℕ) (bs : List ℕ) → (u : List ℕ) × (us : List (Lis
 split_cons c [] = ([], [], refl)
 split_cons c (b ∷ bs) = elim (eqb b c) as (λ t. (u : List ℕ) × (us : List (List ℕ)) × (cond t ([] ∷ split c bs) (led (b ∷ []) (split c bs)) ≡ u ∷ us)) [ true ↦ ([], split c bs, refl) | false ↦ (let q = split_cons c bs in (b ∷ q.0, q.1, ap (led (b ∷ [])) q.2)) ]
 
+-- two lists before the first piece
+pub led_led : (p q : List ℕ) (ws : List (List ℕ)) → led p (led q ws) ≡ led (p ++ q) ws
+led_led p q [] = refl
+led_led p q (w ∷ ws) = ap (λ x. x ∷ ws) (sym (append_assoc p q w))
+
 -- a list with a byte is not empty
 pub empty_by : (a : List ℕ) → (length a ≡ 0 → ⊥) → empty a ≡ false
 empty_by [] n = absurd (n refl)

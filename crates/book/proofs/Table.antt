@@ -1,14 +1,14 @@
 -- The table of names.
-use Rattle.std.proofs.Common.{◌≡◌, ℕ, zero, suc, ◌+◌, ◌<◌, Bool, cond, ◌&&◌, leb, List, [], ◌∷◌, ◌++◌, length, get_or, take, Some, sym, refl, ap, ◌∙◌, subst, ⊎_elim, add-one, arith, length-take}
+use Rattle.std.proofs.Common.{◌≡◌, ℕ, zero, suc, ◌+◌, ◌<◌, Bool, cond, List, [], ◌∷◌, ◌++◌, length, get_or, take, Some, sym, refl, ap, ◌∙◌, subst, ⊎_elim, add-one, arith, length-take}
 use Rattle.std.specs.List.{position_from}
 use Rattle.std.specs.Str.{bytes_eq}
-use Rattle.std.proofs.lemmas.List.{length_push, get_or_push, get_or_append_left, get_or-set_same, get_or-set_other, get_or-take}
-use Rattle.std.proofs.lemmas.Bool.{cases_eq, le-leb}
+use Rattle.std.proofs.lemmas.List.{length_push, get_or_push, get_or_append_left, get_or-set_same, get_or-set_other, get_or-take, get_or_default}
+use Rattle.std.proofs.lemmas.Bool.{cases_eq}
 use Rattle.book.specs.declared.names.Names.{Names}
 use Rattle.book.specs.declared.names.Span.{Span}
 use Rattle.book.specs.Grammar.{Name}
 use Rattle.book.specs.Reading.{found, found_from}
-use Rattle.book.specs.Tables.{no_span, spanned, span_at, name_at, first_names, names_in, Inside, Added}
+use Rattle.book.specs.Tables.{no_span, spanned, span_at, name_at, first_names, names_in, Fits, Inside, Added}
 
 -- the table has as many names as it counts
 pub names_length : (b : List ℕ) (t : Names) (n : ℕ) → length (first_names b t n) ≡ n
@@ -48,7 +48,7 @@ added_names b t u s a =
 
 -- whether the book has the name at the span
 abbrev pub is_name : List ℕ → Name → Span → Bool
-is_name b a s = leb (s.start + s.len) (length b) && bytes_eq (spanned b s) a
+is_name b a s = bytes_eq (spanned b s) a
 
 -- a search of the spans is one of the names where their tests agree
 found_alike : (p : Span → Bool) (a : Name) (i : ℕ) (ss : List Span) (ns : List Name) → length ss ≡ length ns
@@ -69,4 +69,10 @@ found_span b t a i l =
     found_alike (is_name b a) a 0 (take t.count t.spans) (names_in b t) (m ∙ sym n) (λ k h.
     let l : k < t.count = omega arith in
     let z : get_or (take t.count t.spans) k no_span ≡ span_at t k = get_or-take t.count t.spans k no_span l in
-    ap (is_name b a) z ∙ ap (λ q. q && bytes_eq (name_at b t k) a) (le-leb _ _ (i.fits k l)) ∙ ap (λ x. bytes_eq x a) (sym (names_at b t t.count k l)))
+    ap (is_name b a) z ∙ ap (λ x. bytes_eq x a) (sym (names_at b t t.count k l)))
+
+-- a span that the table counts lies in the book
+pub counted_fits : (b : List ℕ) (t : Names) (s : Span) (k : ℕ) → Inside b t → k < length (take t.count t.spans) → s ≡ get_or (take t.count t.spans) k s → Fits b s
+counted_fits b t s k i h e =
+    let q : k < t.count = omega (arith, h, length-take t.count t.spans) in
+    subst (Fits b) (sym (e ∙ get_or_default _ k s no_span h ∙ get_or-take t.count t.spans k no_span q)) (i.fits k q)

@@ -1,7 +1,8 @@
 // The names of the stations, by where they stand in the book.
 ghost use Rattle.std.specs.Prelude.{◌≡◌, ◌+◌, ◌<◌, ◌≤◌, length};
+ghost use Rattle.std.specs.Str.{bytes_eq};
 ghost use Rattle.book.specs.Reading.{found};
-ghost use Rattle.book.specs.Tables.{span_of, names_in, Inside, Added, SpanFound, NameFound};
+ghost use Rattle.book.specs.Tables.{span_of, spanned, names_in, Fits, Inside, Added, SpanFound, NameFound};
 
 use crate::part::Part;
 
@@ -18,6 +19,14 @@ impl Span {
         ensures { SpanFound book.now self result }
     {
         book.get(self.start..)?.get(..self.len)
+    }
+
+    // Whether the book has the name here.
+    fn is_name(self, book: &[u8], name: &[u8]) -> bool
+        requires { Fits book.now self }
+        ensures { result ≡ bytes_eq (spanned book.now self) name.now }
+    {
+        &book[self.start..self.start + self.len] == name
     }
 }
 
@@ -64,7 +73,7 @@ impl Names {
     {
         self.spans[..self.count]
             .iter()
-            .position(|span| span.of(book) == Some(name))
+            .position(|span| span.is_name(book, name))
     }
 
     // One more name.

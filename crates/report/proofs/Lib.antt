@@ -1,4 +1,4 @@
 mod Texts
 mod Reports
-mod StationLines
+pub mod StationLines
 pub mod Judging

@@ -41,8 +41,7 @@ pub fn search<S: Store, L: Label + Copy>(
     if strip.len() < 256 || labels.len() < 256 {
         return Err(Refusal::StripTooShort);
     }
-    let network = Network::of(store);
-    let order = place_all(&network, labels);
+    let order = place_all(&Network::of(store), labels);
     put_front(strip, order.as_slice());
     Ok(())
 }

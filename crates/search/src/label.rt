@@ -112,9 +112,7 @@ impl Label for ListLabel {
     }
 
     fn compare(&self, other: &ListLabel) -> Comparison {
-        Comparison::of(
-            self.positions.less(other.positions),
-            other.positions.less(self.positions),
-        )
+        let less = self.positions.less(other.positions);
+        Comparison::of(less, !less && other.positions.less(self.positions))
     }
 }

@@ -1,10 +1,8 @@
 // A set of stations 0 to 255, by the bits of four words.
-ghost use Rattle.std.specs.Prelude.{◌≡◌, ℕ, ◌<◌, ◌^◌, min, true, false, not, ◌&&◌, ◌||◌, ◌↔◌, MatchOption, ◌==◌, nat_lt, slice_index};
-ghost use Rattle.std.specs.Ordering.{nat_cmp};
+ghost use Rattle.std.specs.Prelude.{◌≡◌, ℕ, ◌<◌, min, true, false, not, ◌&&◌, ◌||◌, ◌↔◌, MatchOption, ◌==◌, nat_lt, slice_index};
 ghost use Rattle.sets.specs.Sets.{has, size, bit, added, Nobody, Lowest, Less};
 
 use std::array;
-use std::cmp::Ordering;
 
 #[derive(Clone, Copy, Debug, PartialEq, Eq)]
 pub struct StationSet {
@@ -84,9 +82,14 @@ impl StationSet {
     pub fn first(self) -> Option<u8>
         ensures { MatchOption result (Nobody self) (λ v. Lowest self v) }
     {
-        let k = self.words.iter().position(|word| *word != 0)?;
-        let lowest = 64 * k + self.words[k].trailing_zeros() as usize;
-        Some(lowest as u8)
+        // No `position`: to look the word up again by its number costs a copy of the set in every turn of a loop over members.
+        for (k, word) in self.words.iter().enumerate() {
+            if *word != 0 {
+                let lowest = 64 * k + word.trailing_zeros() as usize;
+                return Some(lowest as u8);
+            }
+        }
+        None
     }
 
     // How many members there are.
@@ -100,14 +103,19 @@ impl StationSet {
     pub fn less(self, other: StationSet) -> bool
         ensures { (result ≡ true) ↔ Less self other }
     {
-        // No chain: over `iter().rev()` the proof knows no word to be below 2 ^ 64, which `Less` rests on.
+        // No chain: over `iter().rev()` the proof knows no word to be below 2 ^ 64, which `Less` rests on, and orders joined by `then`
+        // are all made first, where the highest word that differs decides alone.
         let a = self.words;
         let b = other.words;
-        compare(a[3], b[3])
-            .then(compare(a[2], b[2]))
-            .then(compare(a[1], b[1]))
-            .then(compare(a[0], b[0]))
-            .is_lt()
+        if a[3] != b[3] {
+            a[3] < b[3]
+        } else if a[2] != b[2] {
+            a[2] < b[2]
+        } else if a[1] != b[1] {
+            a[1] < b[1]
+        } else {
+            a[0] < b[0]
+        }
     }
 
     // The set of the words that `join` makes of those of two sets.
@@ -140,12 +148,4 @@ fn ones(word: u64) -> usize
     ensures { result ≡ size (bit word) 64 }
 {
     word.count_ones() as usize
-}
-
-// How two words compare. A function, since its clause also tells that both are words.
-fn compare(a: u64, b: u64) -> Ordering
-    ensures order { result ≡ nat_cmp a b }
-    ensures fits { (a < 2 ^ 64) × (b < 2 ^ 64) }
-{
-    a.cmp(&b)
 }

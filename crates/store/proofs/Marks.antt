@@ -94,6 +94,14 @@ mark_read bytes n u v lo hi m stands tied ok p q s t e =
     let differ = two.differ in
     e ∙ ap₂ (λ x y. cond x (cond y 1 2) 0) s t ∙ ap₂ (λ x y. pair_mark (bit bytes x y) (bit bytes y x)) p q ∙ sym (mark_in bytes n u v differ (omega arith))
 
+-- the mark of two stations is that of the lower and the upper
+pub mark_ordered : (bytes : List ℕ) (n u v : ℕ) → matrix_mark bytes n (min u v) (max u v) ≡ matrix_mark bytes n u v
+mark_ordered bytes n u v =
+    ⊎_elim
+    (λ (h : u < v). ap₂ (matrix_mark bytes n) {x = min u v} {y = u} (omega arith) (omega arith))
+    (λ (h : v ≤ u). ap₂ (matrix_mark bytes n) {x = min u v} {y = v} (omega arith) (omega arith) ∙ mark_alike bytes n v u)
+    (cases_lt u v)
+
 -- stations that are no pair have no mark
 pub refused_mark : (bytes : List ℕ) (n u v : ℕ) (refusal : Refusal) → number refusal ≡ pair_refusal n u v → 0 ≡ matrix_mark bytes n u v
 refused_mark bytes n u v refusal e =

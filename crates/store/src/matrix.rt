@@ -1,5 +1,5 @@
 // The matrix: a network in the first 8,192 bytes of a lent area.
-ghost use Rattle.std.specs.Prelude.{◌≡◌, min, max, IfOk};
+ghost use Rattle.std.specs.Prelude.{◌≡◌, ◌<◌, min, max, IfOk};
 ghost use Rattle.store.specs.Nets.{count_in_row, count_pairs};
 ghost use Rattle.store.specs.Refusals.{Checks, pair_refusal, Lays};
 ghost use Rattle.store.specs.Matrices.{net_of, bytes_of, matrix_net, empty_net, Makes, SetsSize, Ties, LaysBits};
@@ -72,14 +72,20 @@ impl<'a> Matrix<'a> {
     pub fn count(&self, mark: u8) -> usize
         ensures { result ≡ count_pairs (net_of self.now).mark mark (net_of self.now).size }
     {
-        (0..self.stations()).map(|b| self.count_row(mark, b)).sum()
+        (0..self.stations())
+            .map(|b| self.count_row(mark, b as u8))
+            .sum()
     }
 
     // How many stations below b have the mark with b. A number, as `count` is asked for it.
-    fn count_row(&self, mark: u8, b: usize) -> usize
+    // A sum of flags, since `filter` and `count` cost a branch more a pair.
+    fn count_row(&self, mark: u8, b: u8) -> usize
+        requires { b < (net_of self.now).size }
         ensures { result ≡ count_in_row (net_of self.now).mark mark b b }
     {
-        (0..b).filter(|&a| self.pair_mark(a, b) == mark).count()
+        (0..b)
+            .map(|a| usize::from(self.mark_of(Pair::new(a, b)) == mark))
+            .sum()
     }
 
     // The pair of two stations of the matrix, refused by 1 and 2.
@@ -96,10 +102,7 @@ impl<'a> Matrix<'a> {
         if u == v {
             return Err(Refusal::SameStation);
         }
-        Ok(Pair {
-            lower: u.min(v) as u8,
-            upper: u.max(v) as u8,
-        })
+        Ok(Pair::new(u.min(v) as u8, u.max(v) as u8))
     }
 
     // How many stations the matrix has.
@@ -113,13 +116,22 @@ impl<'a> Matrix<'a> {
         self.n.clamp(1, 256)
     }
 
-    // The mark of two stations, from their two bits. A number, as `mark` tells it.
+    // The mark of two stations, 0 where they are no pair. A number, as `mark` tells it.
     fn pair_mark(&self, u: usize, v: usize) -> u8
         ensures { result ≡ (net_of self.now).mark u v }
     {
         let Ok(pair) = self.pair(u, v) else {
             return 0;
         };
+        self.mark_of(pair)
+    }
+
+    // The mark of a pair of the matrix, from its two bits. A number, as `mark` tells it.
+    #[tactic(auto, using(crate::specs::MatrixLaws::size_two))]
+    fn mark_of(&self, pair: Pair) -> u8
+        requires { pair.upper < (net_of self.now).size }
+        ensures { result ≡ (net_of self.now).mark pair.lower pair.upper }
+    {
         if !pair.standing().is_set(self.area) {
             return 0;
         }

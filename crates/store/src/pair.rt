@@ -12,6 +12,15 @@ pub(crate) struct Pair {
 }
 
 impl Pair {
+    // The pair of a lower and an upper station.
+    pub(crate) fn new(lower: u8, upper: u8) -> Self
+        requires { lower < upper }
+        ensures low { result.lower ≡ lower }
+        ensures high { result.upper ≡ upper }
+    {
+        Pair { lower, upper }
+    }
+
     // The bit that says that the pair stands.
     pub(crate) fn standing(self) -> Bit
         ensures row { result.row ≡ self.lower }

@@ -1,5 +1,5 @@
 // Bits of a square of 256 by 256 in the first 8,192 bytes of an area.
-// Writes take the area and ask for its length: a struct with that fact as a ghost field, and `first_chunk_mut`, were
+// Reads and writes take the area and ask for its length: a struct with that fact as a ghost field, and `first_chunk_mut`, were
 // tried in `make`, and what the area holds after either borrows it from behind `&mut self` stayed an unknown list.
 ghost use Rattle.std.specs.Prelude.{◌≡◌, ◌≤◌, cond, length, ◌==◌};
 ghost use Rattle.store.specs.Squares.{place, mask, bit, raised, lowered, wiped};
@@ -26,13 +26,13 @@ impl Bit {
         1 << (self.column % 8)
     }
 
-    // Whether the area has the bit and it is 1.
+    // Whether the bit is 1.
     #[tactic(auto, using(crate::proofs::Squares::mask_tests), unfolding(crate::specs::Squares::bit))]
     pub(crate) fn is_set(self, area: &[u8]) -> bool
+        requires { 8192 ≤ length area.now }
         ensures { result ≡ (bit area.now self.row self.column == 1) }
     {
-        area.get(self.byte())
-            .is_some_and(|byte| byte & self.mask() != 0)
+        area[self.byte()] & self.mask() != 0
     }
 
     // Makes the bit 1 or 0: the flag is its value, so that one function writes both.

@@ -9,7 +9,7 @@ use Rattle.search.proofs.judging.search.Goals as goal
 pub returns-clause-searches : goal.returns-clause-searches
 returns-clause-searches g c =
     let net = g.S.Store.meaning c.args.store.now in
-    let network = c.of-network in
+    let network = c.of in
     let order = c.place_all-order.result.items in (
       omega arith,
       omega arith,

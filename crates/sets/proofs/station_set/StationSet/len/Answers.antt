@@ -19,6 +19,7 @@ sum-requires-clause-fits c =
 
 pub returns : goal.returns
 returns c =
-    sum_by_from_yields_List count c.args.self.words c.map.result _ c.sum.ensures.ran
+    let e = sum_by_from_yields_List count c.args.self.words c.map.result _ c.sum.ensures.ran
     (YieldsList-from_map _ count (YieldsList-at c.map.ensures.source (YieldsList-from_slice c.args.self.words c.iter.ensures.rest)) c.map.ensures.closure (λ x r q k. search rules))
-    ∙ size_words c.args.self (omega arith)
+    ∙ size_words c.args.self (omega arith) in
+    omega (arith, e)

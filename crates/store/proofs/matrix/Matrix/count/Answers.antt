@@ -1,5 +1,5 @@
 use Rattle.std.proofs.Common.{ℕ, length, rules, tests, ◌∙◌, arith}
-use Rattle.std.proofs.lemmas.Iterator.{YieldsList-from_range, YieldsList-from_map}
+use Rattle.std.proofs.lemmas.Iterator.{YieldsList-from_range, YieldsList-from_map, serves_from_Range}
 use Rattle.std.proofs.lemmas.Iterator.Consumers.{sum_by_from_yields_List, fits_by_from_yields_list}
 use Rattle.std.specs.List.{range_with_len}
 use Rattle.store.specs.Nets.{count_in_row}
@@ -7,6 +7,11 @@ use Rattle.store.specs.Matrices.{net_of}
 use Rattle.store.specs.MatrixLaws.{size_most, pairs_most}
 use Rattle.store.proofs.Counts.{pairs_from}
 use Rattle.store.proofs.matrix.Matrix.count.Goals as goal
+
+pub sum-requires-clause-can : goal.sum-requires-clause-can
+sum-requires-clause-can c =
+    let few = size_most (length c.args.self.now.area.now) c.args.self.now.n in
+    (tt, serves_from_Range (λ x q k. search (rules, tests)) (λ x low high. search rules))
 
 pub sum-requires-clause-fits : goal.sum-requires-clause-fits
 sum-requires-clause-fits c =
