@@ -68,6 +68,7 @@ pub fn judge<S: Store, L: Label + Copy>(
         return Ok(Verdict::Chordal);
     }
     let ring = find_ring(&network, guard.strip);
+    let length = ring.len();
     put_front(strip, ring.as_slice());
-    Ok(Verdict::Ring(ring.len()))
+    Ok(Verdict::Ring(length))
 }

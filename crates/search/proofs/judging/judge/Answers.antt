@@ -36,12 +36,12 @@ returns-clause-judges g c =
     let e : zeroed ring.new.marks ≡ zeroed c.args.marks.now =
     zeroed_same ring.new.marks c.args.marks.now (omega (arith, ap length c.over-guard.ensures.bytes))
     (ring.ensures.rest ∙ ap (drop 256) c.over-guard.ensures.bytes) in
-    let says = ring_says order c.args.strip.now c.put_front-2.new.strip ring.result.items _ c.len.ensures.value c.len.ensures.fits ring.ensures.ring
+    let says = ring_says order c.args.strip.now c.put_front-2.new.strip ring.result.items _ c.len-length.ensures.value c.len-length.ensures.fits ring.ensures.ring
     (c.put_front-2.ensures ∙ ap (λ xs. fronted xs c.args.strip.now) c.as_slice-2.ensures.value) in (
       omega arith,
       omega arith,
       omega arith,
       search rules,
-      judged order c.args.strip.now c.put_front-2.new.strip c.args.labels.now c.place_all-order.new.labels (Ring c.len.result)
+      judged order c.args.strip.now c.put_front-2.new.strip c.args.labels.now c.place_all-order.new.labels (Ring c.len-length.result)
           network.ensures.size network.ensures.edges c.place_all-order.ensures says,
     )
